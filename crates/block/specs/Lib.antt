@@ -1,0 +1,12 @@
+pub mod Promises
+pub mod Word
+pub mod Sums
+pub mod Good
+pub mod Whole
+pub mod Seal
+pub mod Cases
+pub mod Choose
+pub mod First
+pub mod Store
+pub mod Change
+pub mod Sealed

@@ -1,0 +1,131 @@
+use Prim.Native.Nat.{ℕ, _<_}
+use native.Mathlib.Omega.{arith}
+use Rattle.travel.specs.Halves.{force-in}
+use Rattle.travel.specs.Unfolds.{the-road, the-halves, road-unfolds, halves-unfold, few-roads}
+use borrow.Fn.Kinds.{In}
+use borrow.Fn.PlainCycle.{Measures, is, falls, and}
+use Rattle.travel.proofs.path.count_roads.Reads as count-roads
+use Rattle.travel.proofs.path.count_roads.Kinds as count-roads-kinds
+use Rattle.travel.proofs.path.+count_roads.Lts-count_roads as count-roads-lts
+use Rattle.travel.proofs.edge.piece_in_force.Reads as piece-in-force-reads
+use Rattle.travel.proofs.road.road_duration.Reads as road-duration-reads
+use Rattle.volume.proofs.tables.piece_left.Reads as piece-left-reads
+use Rattle.volume.proofs.tables.piece_right.Reads as piece-right-reads
+use Rattle.travel.proofs.path.+count_roads.{statement}
+use Rattle.travel.proofs.path.+count_roads.Tie.{close}
+
+abbrev μ-count-roads : Measures 1 count-roads-kinds.ps ℕ
+μ-count-roads κs a = a .1 .1 .0
+
+abbrev count-roads-at : ℕ → In 1 count-roads-kinds.ps
+count-roads-at t =
+    and 1 count-roads-kinds.ps (is 1 count-roads-kinds.ps μ-count-roads t) count-roads.Pre
+
+abbrev count-roads-below : ℕ → In 1 count-roads-kinds.ps
+count-roads-below t =
+    and 1 count-roads-kinds.ps (falls 1 count-roads-kinds.ps _<_ μ-count-roads t) count-roads.Pre
+
+abbrev calls : ℕ → count-roads-lts.Claims
+calls t = (
+  piece-in-force-reads.Asked,
+  piece-in-force-reads.Learnt,
+  piece-left-reads.Asked,
+  piece-left-reads.Learnt,
+  piece-right-reads.Asked,
+  piece-right-reads.Learnt,
+  road-duration-reads.Asked,
+  road-duration-reads.Learnt,
+  count-roads-below t,
+  count-roads.Post,
+)
+
+count-roads-piece-in-force-requires : (t : ℕ) → count-roads-lts.Need-piece-in-force-requires (calls t) (count-roads-at t) count-roads.Post
+count-roads-piece-in-force-requires t c κs =
+    let s = c .before in
+    (s .pre .1 .0, (s .pre .1 .1 .0, s .pre .1 .1 .1 .there))
+
+count-roads-piece-left-requires : (t : ℕ) → count-roads-lts.Need-piece-left-requires (calls t) (count-roads-at t) count-roads.Post
+count-roads-piece-left-requires t c κs =
+    let s = c .before .before in
+    (s .pre .1 .0, force-in _ (s .pre .1 .1 .0) (s .args .e) (s .args .x) _ (s .pre .1 .1 .1 .there) (c .piece-in-force .ensures))
+
+count-roads-piece-right-requires : (t : ℕ) → count-roads-lts.Need-piece-right-requires (calls t) (count-roads-at t) count-roads.Post
+count-roads-piece-right-requires t c κs =
+    let s = c .before .before .before in
+    (s .pre .1 .0, force-in _ (s .pre .1 .1 .0) (s .args .e) (s .args .x) _ (s .pre .1 .1 .1 .there) (c .before .piece-in-force .ensures))
+
+count-roads-road-duration-requires : (t : ℕ) → count-roads-lts.Need-road-duration-requires (calls t) (count-roads-at t) count-roads.Post
+count-roads-road-duration-requires t c κs =
+    let d = c in
+    let s = d .before .before .before .before .before in
+    (s .pre .1 .0, (s .pre .1 .1 .0, the-road _ (s .pre .1 .1 .0) (s .args .e) (s .args .x) _ _ _ (s .pre .1 .1 .1) (d .before .before .before .piece-in-force .ensures) (d .before .before .piece-left .ensures .0) (d .before .piece-right .ensures .0) (d .if1 .taken)))
+
+count-roads-returns : (t : ℕ) → count-roads-lts.Need-returns (calls t) (count-roads-at t) count-roads.Post
+count-roads-returns t c =
+    let d = c .before in
+    let s = d .before .before .before .before .before in
+    road-unfolds _ (s .pre .1 .1 .0) (s .args .e) (s .args .x) _ _ _ (s .pre .1 .1 .1) (d .before .before .before .piece-in-force .ensures) (d .before .before .piece-left .ensures .0) (d .before .piece-right .ensures .0) (d .if1 .taken) _ (c .road-duration .ensures)
+
+count-roads-count-roads-requires : (t : ℕ) → count-roads-lts.Need-count-roads-requires (calls t) (count-roads-at t) count-roads.Post
+count-roads-count-roads-requires t c κs =
+    let d = c in
+    let s = d .before .before .before .before .before in
+    let H = the-halves _ (s .pre .1 .1 .0) (s .args .e) (s .args .x) _ _ _ (s .pre .1 .1 .1) (d .before .before .before .piece-in-force .ensures) (d .before .before .piece-left .ensures .0) (d .before .piece-right .ensures .0) (d .if1 .left) in
+    let m : d .before .before .piece-left .result < t = omega (arith, s .pre .0, H .left-below) in
+    (m, (s .pre .1 .0, (s .pre .1 .1 .0, H .left)))
+
+count-roads-add-count-roads : (t : ℕ) → count-roads-lts.Need-add-count-roads (calls t) (count-roads-at t) count-roads.Post
+count-roads-add-count-roads t c =
+    let d = c .before .before in
+    let s = d .before .before .before .before .before in
+    let H = the-halves _ (s .pre .1 .1 .0) (s .args .e) (s .args .x) _ _ _ (s .pre .1 .1 .1) (d .before .before .before .piece-in-force .ensures) (d .before .before .piece-left .ensures .0) (d .before .piece-right .ensures .0) (d .if1 .left) in
+    omega (arith, H .right _ (c .before .count-roads .ensures .duration) .fits)
+
+count-roads-count-roads-requires-2 : (t : ℕ) → count-roads-lts.Need-count-roads-requires-2 (calls t) (count-roads-at t) count-roads.Post
+count-roads-count-roads-requires-2 t c κs =
+    let d = c .before .before in
+    let s = d .before .before .before .before .before in
+    let H = the-halves _ (s .pre .1 .1 .0) (s .args .e) (s .args .x) _ _ _ (s .pre .1 .1 .1) (d .before .before .before .piece-in-force .ensures) (d .before .before .piece-left .ensures .0) (d .before .piece-right .ensures .0) (d .if1 .left) in
+    let m : d .before .piece-right .result < t = omega (arith, s .pre .0, H .right-below) in
+    (m, (s .pre .1 .0, (s .pre .1 .1 .0, H .right _ (c .before .count-roads .ensures .duration))))
+
+count-roads-add-roads : (t : ℕ) → count-roads-lts.Need-add-roads (calls t) (count-roads-at t) count-roads.Post
+count-roads-add-roads t c =
+    let d = c .before .before .before .before .before in
+    let s = d .before .before .before .before .before in
+    let a = c .before .before .before .before .count-roads in
+    let b = c .before .before .count-roads2 in
+    let u = halves-unfold _ (s .pre .1 .1 .0) (s .args .e) (s .args .x) _ _ _ (s .pre .1 .1 .1) (d .before .before .before .piece-in-force .ensures) (d .before .before .piece-left .ensures .0) (d .before .piece-right .ensures .0) (d .if1 .left) _ (a .ensures) _ (b .ensures) in
+    omega (arith, few-roads _ (s .pre .1 .1 .0) (s .args .e) (s .args .x) _ (s .pre .1 .1 .1 .there) u)
+
+count-roads-add-duration : (t : ℕ) → count-roads-lts.Need-add-duration (calls t) (count-roads-at t) count-roads.Post
+count-roads-add-duration t c =
+    let d = c .before .before .before .before .before .before .before in
+    let s = d .before .before .before .before .before in
+    let a = c .before .before .before .before .before .before .count-roads in
+    let b = c .before .before .before .before .count-roads2 in
+    let H = the-halves _ (s .pre .1 .1 .0) (s .args .e) (s .args .x) _ _ _ (s .pre .1 .1 .1) (d .before .before .before .piece-in-force .ensures) (d .before .before .piece-left .ensures .0) (d .before .piece-right .ensures .0) (d .if1 .left) in
+    omega (arith, H .sum _ _ (a .ensures .duration) (b .ensures .duration))
+
+count-roads-returns-2 : (t : ℕ) → count-roads-lts.Need-returns-2 (calls t) (count-roads-at t) count-roads.Post
+count-roads-returns-2 t c =
+    let d = c .before .before .before .before .before .before .before in
+    let s = d .before .before .before .before .before in
+    let a = c .before .before .before .before .before .before .count-roads in
+    let b = c .before .before .before .before .count-roads2 in
+    halves-unfold _ (s .pre .1 .1 .0) (s .args .e) (s .args .x) _ _ _ (s .pre .1 .1 .1) (d .before .before .before .piece-in-force .ensures) (d .before .before .piece-left .ensures .0) (d .before .piece-right .ensures .0) (d .if1 .left) _ (a .ensures) _ (b .ensures)
+
+pub +count-roads-spec : {M : Type 1} → statement M
++count-roads-spec = close μ-count-roads λ t. count-roads-lts.spec (calls t) (count-roads-at t)
+    count-roads.Post
+    (count-roads-piece-in-force-requires t)
+    (count-roads-piece-left-requires t)
+    (count-roads-piece-right-requires t)
+    (count-roads-road-duration-requires t)
+    (count-roads-returns t)
+    (count-roads-count-roads-requires t)
+    (count-roads-add-count-roads t)
+    (count-roads-count-roads-requires-2 t)
+    (count-roads-add-roads t)
+    (count-roads-add-duration t)
+    (count-roads-returns-2 t)

@@ -1,0 +1,13 @@
+pub mod Promises
+pub mod Last
+pub mod Road
+pub mod Between
+pub mod Lines
+pub mod RoadLaws
+pub mod Wording
+pub mod Network
+pub mod PointsFrom
+pub mod Row
+pub mod Halves
+pub mod Unfolds
+pub mod Written

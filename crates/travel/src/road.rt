@@ -1,0 +1,69 @@
+// How long a road takes at a second: document 01, "Travel time". A road's points are a row of the table of points.
+use crate::last::last_at;
+use volume::tables::Tables;
+use volume::tables::point_duration;
+use volume::tables::point_second;
+use volume::tables::road_first;
+use volume::tables::road_points;
+ghost use mathlib.Core.Path.{_≡_};
+ghost use Prim.Native.Nat.{_^_, _<_};
+ghost use Rattle.volume.specs.Format.{volumeOf, Laid};
+ghost use Rattle.volume.specs.Sound.{Sound};
+ghost use Rattle.travel.specs.Road.{between};
+ghost use Rattle.travel.specs.PointsFrom.{PointsFrom, LineFrom, durationOn, Ends};
+ghost use Rattle.travel.specs.Network.{roadTime};
+
+// After how many seconds roads and edges repeat.
+pub const PERIOD: u64 = 86400;
+
+// The words of a point.
+const POINT_WORDS: usize = 2;
+
+// The duration at x between the points (t0, f0) and (t1, f1).
+fn line(t0: u64, f0: u64, t1: u64, f1: u64, x: u64) -> u64
+    requires { ⌜ Ends t0 f0 t1 f1 x ⌝ }
+    requires { ⌜ t1 < 2 ^ 34 ⌝ }
+    ensures { λ r. ⌜ r ≡ between t0 f0 t1 f1 x ⌝ }
+{
+    (f0 * (t1 - x) + f1 * (x - t0)) / (t1 - t0)
+}
+
+// The duration at x between point i, of the n points from point first on, and its right neighbour.
+fn from_point(v: &[u8], t: Tables, first: usize, n: usize, i: usize, x: u64) -> u64
+    requires { ⌜ Laid (now v) t ⌝ }
+    requires { ⌜ PointsFrom (volumeOf (now v)) first n ⌝ }
+    requires { ⌜ LineFrom (volumeOf (now v)) first n i x ⌝ }
+    ensures { λ r. ⌜ r ≡ durationOn (volumeOf (now (v .entry))) first n i x ⌝ }
+{
+    let t0 = point_second(v, t, first + i);
+    let f0 = point_duration(v, t, first + i);
+    if i + 1 < n {
+        let t1 = point_second(v, t, first + i + 1);
+        let f1 = point_duration(v, t, first + i + 1);
+        return line(t0, f0, t1, f1, x);
+    }
+    let t1 = point_second(v, t, first) + PERIOD;
+    let f1 = point_duration(v, t, first);
+    line(t0, f0, t1, f1, x)
+}
+
+// The duration of road k for who enters it at x.
+pub fn road_duration(v: &[u8], t: Tables, k: usize, x: u64) -> u64
+    requires { ⌜ Laid (now v) t ⌝ }
+    requires { ⌜ Sound (volumeOf (now v)) ⌝ }
+    requires { ⌜ k < volumeOf (now v) .roads ⌝ }
+    ensures { λ r. ⌜ r ≡ roadTime (volumeOf (now (v .entry))) k x ⌝ }
+{
+    let first = road_first(v, t, k);
+    let n = road_points(v, t, k);
+    if n == 1 {
+        return point_duration(v, t, first);
+    }
+    let y = x % PERIOD;
+    if y < point_second(v, t, first) {
+        return from_point(v, t, first, n, n - 1, y + PERIOD);
+    }
+    let base = t.points;
+    let i = last_at(v, base + POINT_WORDS * first, POINT_WORDS, n, y);
+    from_point(v, t, first, n, i, y)
+}

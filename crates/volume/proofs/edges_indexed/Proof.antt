@@ -1,0 +1,43 @@
+use native.Mathlib.Omega.{arith}
+use lib.ListN.{replicate}
+use borrow.Author.Needs.{needs}
+use Rattle.volume.specs.Index.{indexed-linked}
+use Rattle.volume.specs.Format.{volumeOf}
+use Rattle.volume.proofs.edges_indexed.Statement.{statement}
+use Rattle.volume.proofs.edges_indexed.Tie as tie
+
+slice-aggregate-index-edges : tie.Need-slice-aggregate-index-edges
+slice-aggregate-index-edges c = search needs
+
+slice-aggregate-index-edges-2 : tie.Need-slice-aggregate-index-edges-2
+slice-aggregate-index-edges-2 c = search needs
+
+index-edges-requires : tie.Need-index-edges-requires
+index-edges-requires c κs = search needs
+
+slice-aggregate-edges-pass : tie.Need-slice-aggregate-edges-pass
+slice-aggregate-edges-pass c = search needs
+
+slice-aggregate-edges-pass-2 : tie.Need-slice-aggregate-edges-pass-2
+slice-aggregate-edges-pass-2 c = search needs
+
+edges-pass-requires : tie.Need-edges-pass-requires
+edges-pass-requires c κs =
+    let s = c .before .before .before .before .before .before .before .before in
+    let n = s .pre .1 .0 in
+    (s .pre .0, (n, indexed-linked (volumeOf (s .args .v .now)) (replicate 1024 0) (replicate 16384 0) _ _ (omega (arith, s .pre .1 .1, n .junctions)) (omega (arith, s .pre .1 .1, n .edges)) (c .before .before .before .before .index-edges .ensures)))
+
+returns : tie.Need-returns
+returns c = search needs
+
+pub edges-indexed-spec : {M : Type 1} → statement M
+edges-indexed-spec =
+    tie.close
+    (tie.spec
+    slice-aggregate-index-edges
+    slice-aggregate-index-edges-2
+    index-edges-requires
+    slice-aggregate-edges-pass
+    slice-aggregate-edges-pass-2
+    edges-pass-requires
+    returns)

@@ -1,0 +1,136 @@
+-- What the content words of a volume mean: the head, the roads, the points, the edges and the pieces, as plain functions of a
+-- number. The rules and everything above speak of this record and never of bytes. The sizes of the records and the period stand
+-- here alone.
+use Prim.Native.Nat.{ℕ, _+_, _*_, _/_, _≤_}
+use mathlib.Core.Path.{_≡_, refl}
+use mathlib.Core.List.{List}
+use lib.ListN.{length}
+use Rattle.block.specs.Word.{contentAt}
+use Rattle.volume.specs.declared.tables.Counts.{Counts}
+use Rattle.volume.specs.declared.tables.Tables.{Tables}
+
+-- the seconds of a day
+abbrev pub day : ℕ
+day = 86400
+
+-- what a volume holds; `period` is after how many seconds its roads and edges repeat
+pub record Volume : Type 0 where
+  pub period : ℕ
+  pub edition : ℕ
+  pub junctions : ℕ
+  pub roads : ℕ
+  pub points : ℕ
+  pub edges : ℕ
+  pub pieces : ℕ
+  pub road-from : ℕ → ℕ
+  pub road-to : ℕ → ℕ
+  pub road-first : ℕ → ℕ
+  pub road-points : ℕ → ℕ
+  pub point-second : ℕ → ℕ
+  pub point-duration : ℕ → ℕ
+  pub edge-from : ℕ → ℕ
+  pub edge-to : ℕ → ℕ
+  pub edge-first : ℕ → ℕ
+  pub edge-pieces : ℕ → ℕ
+  pub edge-span : ℕ → ℕ
+  pub piece-start : ℕ → ℕ
+  pub piece-left : ℕ → ℕ
+  pub piece-right : ℕ → ℕ
+
+-- where each table begins, as a content word: after a head of 6 words, roads of 4, points of 2, edges of 5, pieces of 3
+
+abbrev pub roadsAt : ℕ
+roadsAt = 6
+
+abbrev pub pointsAt : ℕ → ℕ
+pointsAt roads = roadsAt + 4 * roads
+
+abbrev pub edgesAt : ℕ → ℕ → ℕ
+edgesAt roads points = pointsAt roads + 2 * points
+
+abbrev pub piecesAt : ℕ → ℕ → ℕ → ℕ
+piecesAt roads points edges = edgesAt roads points + 5 * edges
+
+-- how many content words there are in all, by the counts
+abbrev pub wordsIn : Counts → ℕ
+wordsIn c = piecesAt (c .roads) (c .points) (c .edges) + 3 * c .pieces
+
+abbrev pub tablesOf : Counts → Tables
+tablesOf c = record {
+  points = pointsAt (c .roads);
+  edges = edgesAt (c .roads) (c .points);
+  pieces = piecesAt (c .roads) (c .points) (c .edges);
+}
+
+-- the counts are within the limits of the head
+pub record Few (c : Counts) : Type 0 where
+  pub junctions-some : 1 ≤ c .junctions
+  pub junctions : c .junctions ≤ 1024
+  pub roads : c .roads ≤ 4096
+  pub points : c .points ≤ 65535
+  pub edges : c .edges ≤ 16384
+  pub pieces : c .pieces ≤ 65535
+
+-- the volume that the bytes hold
+unfoldable pub volumeOf : List ℕ → Volume
+volumeOf v =
+    let word = contentAt v in
+    let pointsFrom = pointsAt (word 2) in
+    let edgesFrom = edgesAt (word 2) (word 3) in
+    let piecesFrom = piecesAt (word 2) (word 3) (word 4) in
+    record {
+      period = day;
+      edition = word 0;
+      junctions = word 1;
+      roads = word 2;
+      points = word 3;
+      edges = word 4;
+      pieces = word 5;
+      road-from = λ k. word (roadsAt + 4 * k);
+      road-to = λ k. word (roadsAt + 4 * k + 1);
+      road-first = λ k. word (roadsAt + 4 * k + 2);
+      road-points = λ k. word (roadsAt + 4 * k + 3);
+      point-second = λ i. word (pointsFrom + 2 * i);
+      point-duration = λ i. word (pointsFrom + 2 * i + 1);
+      edge-from = λ e. word (edgesFrom + 5 * e);
+      edge-to = λ e. word (edgesFrom + 5 * e + 1);
+      edge-first = λ e. word (edgesFrom + 5 * e + 2);
+      edge-pieces = λ e. word (edgesFrom + 5 * e + 3);
+      edge-span = λ e. word (edgesFrom + 5 * e + 4);
+      piece-start = λ p. word (piecesFrom + 3 * p);
+      piece-left = λ p. word (piecesFrom + 3 * p + 1);
+      piece-right = λ p. word (piecesFrom + 3 * p + 2);
+    }
+
+-- N, R, P, E and Q
+abbrev pub countsOf : Volume → Counts
+countsOf vol = record {
+  junctions = vol .junctions;
+  roads = vol .roads;
+  points = vol .points;
+  edges = vol .edges;
+  pieces = vol .pieces;
+}
+
+-- c holds the counts of the volume
+pub record Counted (vol : Volume) (c : Counts) : Type 0 where
+  pub junctions : c .junctions ≡ vol .junctions
+  pub roads : c .roads ≡ vol .roads
+  pub points : c .points ≡ vol .points
+  pub edges : c .edges ≡ vol .edges
+  pub pieces : c .pieces ≡ vol .pieces
+
+abbrev pub wordsOf : Volume → ℕ
+wordsOf vol = wordsIn (countsOf vol)
+
+-- t says where the tables of the volume in v begin, and v holds all of its words
+pub record Laid (v : List ℕ) (t : Tables) : Type 0 where
+  pub points : t .points ≡ pointsAt (volumeOf v .roads)
+  pub edges : t .edges ≡ edgesAt (volumeOf v .roads) (volumeOf v .points)
+  pub pieces : t .pieces ≡ piecesAt (volumeOf v .roads) (volumeOf v .points) (volumeOf v .edges)
+  pub room : wordsOf (volumeOf v) ≤ 126 * (length v / 512)
+
+-- a volume repeats every day
+pub period-is : (v : List ℕ) → volumeOf v .period ≡ day
+unfolding volumeOf
+period-is v = refl

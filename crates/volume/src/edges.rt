@@ -1,0 +1,235 @@
+// The edge rules.
+use crate::roads::Pass;
+use crate::roads::ends_fit;
+use crate::roads::is_placed;
+use crate::tables::Counts;
+use crate::tables::EMPTY;
+use crate::tables::PERIOD;
+use crate::tables::Tables;
+use crate::tables::edge_first;
+use crate::tables::edge_from;
+use crate::tables::edge_pieces;
+use crate::tables::edge_span;
+use crate::tables::edge_to;
+use crate::tables::piece_left;
+use crate::tables::piece_right;
+use crate::tables::piece_start;
+use crate::tables::road_from;
+use crate::tables::road_to;
+ghost use mathlib.Core.Path.{_≡_};
+ghost use Prim.Native.Nat.{ℕ, _+_, _-_, _^_, _≤_, _<_, max};
+ghost use mathlib.Core.List.{List};
+ghost use Rattle.volume.specs.Format.{volumeOf, Counted, Laid, day};
+ghost use Rattle.volume.specs.Rules.{begins, newEnds, roadJoins, pairJoins, startFits, edgeRule};
+ghost use Rattle.volume.specs.Passes.{pieceFit, piecesFit, edgesPass};
+ghost use Rattle.volume.specs.Index.{Linked};
+
+const MOST_SPAN: usize = 4096;
+
+// The span of a piece or of all pieces of an edge, or that one breaks a rule.
+pub enum Fit {
+    Span(usize),
+    Fault,
+}
+
+// Has no edge before e the same two ends? Only edges with the same start are looked at.
+fn new_ends(
+    v: &[u8],
+    t: Tables,
+    first: &[u16],
+    next: &[u16],
+    e: usize,
+    from: usize,
+    to: usize,
+) -> bool
+    requires { ⌜ Laid (now v) t ⌝ }
+    requires { ⌜ Linked (volumeOf (now v)) (now first) (now next) ⌝ }
+    requires { ⌜ (e < volumeOf (now v) .edges) × (from < volumeOf (now v) .junctions) ⌝ }
+    requires { ⌜ (from ≡ volumeOf (now v) .edge-from e) × (to ≡ volumeOf (now v) .edge-to e) ⌝ }
+    ensures { λ r. ⌜ r ≡ newEnds (volumeOf (now (v .entry))) e ⌝ }
+{
+    let mut d = first[from] as usize;
+    while d < e {
+        if edge_to(v, t, d) == to {
+            return false;
+        }
+        d = next[d] as usize;
+    }
+    true
+}
+
+// Is k a road from `from` to `to`?
+fn road_joins(v: &[u8], t: Tables, roads: usize, k: usize, from: usize, to: usize) -> bool
+    requires { ⌜ Laid (now v) t ⌝ }
+    requires { ⌜ roads ≡ volumeOf (now v) .roads ⌝ }
+    ensures { λ r. ⌜ r ≡ roadJoins (volumeOf (now (v .entry))) k from to ⌝ }
+{
+    if roads <= k {
+        return false;
+    }
+    if road_from(v, t, k) != from {
+        return false;
+    }
+    road_to(v, t, k) == to
+}
+
+// Are l and r edges below e that lead in turn from `from` to `to` and meet below both?
+fn pair_joins(v: &[u8], t: Tables, e: usize, l: usize, r: usize, from: usize, to: usize) -> bool
+    requires { ⌜ Laid (now v) t ⌝ }
+    requires { ⌜ e < volumeOf (now v) .edges ⌝ }
+    ensures { λ b. ⌜ b ≡ pairJoins (volumeOf (now (v .entry))) e l r from to ⌝ }
+{
+    if e <= l {
+        return false;
+    }
+    if e <= r {
+        return false;
+    }
+    if edge_from(v, t, l) != from {
+        return false;
+    }
+    if edge_to(v, t, r) != to {
+        return false;
+    }
+    let middle = edge_to(v, t, l);
+    if middle != edge_from(v, t, r) {
+        return false;
+    }
+    if from <= middle {
+        return false;
+    }
+    middle < to
+}
+
+// The span of piece p of edge e, which leads from `from` to `to`.
+fn piece_fit(v: &[u8], t: Tables, roads: usize, e: usize, p: usize, from: usize, to: usize) -> Fit
+    requires { ⌜ Laid (now v) t ⌝ }
+    requires { ⌜ (roads ≡ volumeOf (now v) .roads) × (e < volumeOf (now v) .edges) × (p < volumeOf (now v) .pieces) ⌝ }
+    requires { ⌜ (from ≡ volumeOf (now v) .edge-from e) × (to ≡ volumeOf (now v) .edge-to e) ⌝ }
+    ensures { λ r. ⌜ r ≡ pieceFit (volumeOf (now (v .entry))) e p ⌝ }
+{
+    let left = piece_left(v, t, p);
+    let right = piece_right(v, t, p);
+    if right == EMPTY {
+        if road_joins(v, t, roads, left, from, to) {
+            return Fit::Span(1);
+        }
+        return Fit::Fault;
+    }
+    if pair_joins(v, t, e, left, right, from, to) {
+        return Fit::Span(edge_span(v, t, left) + edge_span(v, t, right));
+    }
+    Fit::Fault
+}
+
+// Does piece i start when it must, where the piece before it starts at `before`?
+fn start_fits(i: usize, before: u64, start: u64) -> bool
+    ensures { λ r. ⌜ r ≡ startFits day i before start ⌝ }
+{
+    if i == 0 {
+        return start == 0;
+    }
+    if start <= before {
+        return false;
+    }
+    start < PERIOD
+}
+
+fn greater(a: usize, b: usize) -> usize
+    ensures { λ r. ⌜ r ≡ max a b ⌝ }
+{
+    if a < b {
+        return b;
+    }
+    a
+}
+
+// The greatest span of the n pieces of edge e, which begin at `first`.
+fn pieces_fit(v: &[u8], t: Tables, roads: usize, e: usize, first: usize, n: usize) -> Fit
+    requires { ⌜ Laid (now v) t ⌝ }
+    requires { ⌜ (roads ≡ volumeOf (now v) .roads) × (e < volumeOf (now v) .edges) × (first + n ≤ volumeOf (now v) .pieces) ⌝ }
+    requires { ⌜ (first ≡ volumeOf (now v) .edge-first e) × (n ≡ volumeOf (now v) .edge-pieces e) ⌝ }
+    ensures { λ r. ⌜ r ≡ piecesFit (volumeOf (now (v .entry))) e ⌝ }
+{
+    let from = edge_from(v, t, e);
+    let to = edge_to(v, t, e);
+    let mut greatest: usize = 0;
+    let mut before: u64 = 0;
+    let mut i: usize = 0;
+    while i < n {
+        let start = piece_start(v, t, first + i);
+        if !start_fits(i, before, start) {
+            return Fit::Fault;
+        }
+        let Fit::Span(span) = piece_fit(v, t, roads, e, first + i, from, to) else {
+            return Fit::Fault;
+        };
+        greatest = greater(greatest, span);
+        before = start;
+        i += 1;
+    }
+    Fit::Span(greatest)
+}
+
+// Does edge e obey? Its pieces are to begin at `begin`.
+fn edge_fits(
+    v: &[u8],
+    t: Tables,
+    c: Counts,
+    first: &[u16],
+    next: &[u16],
+    e: usize,
+    begin: usize,
+) -> bool
+    requires { ⌜ Laid (now v) t ⌝ }
+    requires { ⌜ Counted (volumeOf (now v)) c ⌝ }
+    requires { ⌜ Linked (volumeOf (now v)) (now first) (now next) ⌝ }
+    requires { ⌜ e < volumeOf (now v) .edges ⌝ }
+    requires { ⌜ begin ≡ begins (volumeOf (now v) .edge-first) (volumeOf (now v) .edge-pieces) e ⌝ }
+    ensures { λ r. ⌜ r ≡ edgeRule (volumeOf (now (v .entry))) e ⌝ }
+{
+    let from = edge_from(v, t, e);
+    let to = edge_to(v, t, e);
+    if !ends_fit(c.junctions, from, to) {
+        return false;
+    }
+    if !new_ends(v, t, first, next, e, from, to) {
+        return false;
+    }
+    let at = edge_first(v, t, e);
+    let n = edge_pieces(v, t, e);
+    if !is_placed(begin, c.pieces, at, n) {
+        return false;
+    }
+    let Fit::Span(greatest) = pieces_fit(v, t, c.roads, e, at, n) else {
+        return false;
+    };
+    let span = edge_span(v, t, e);
+    if span != greatest {
+        return false;
+    }
+    span <= MOST_SPAN
+}
+
+// The pass over all edges: the first at fault, or E where pieces are left over.
+pub fn edges_pass(v: &[u8], t: Tables, c: Counts, first: &[u16], next: &[u16]) -> Pass
+    requires { ⌜ Laid (now v) t ⌝ }
+    requires { ⌜ Counted (volumeOf (now v)) c ⌝ }
+    requires { ⌜ Linked (volumeOf (now v)) (now first) (now next) ⌝ }
+    ensures { λ r. ⌜ r ≡ edgesPass (volumeOf (now (v .entry))) ⌝ }
+{
+    let n = c.edges;
+    let mut begin: usize = 0;
+    let mut e: usize = 0;
+    while e < n {
+        if !edge_fits(v, t, c, first, next, e, begin) {
+            return Pass::Fault(e);
+        }
+        begin = edge_first(v, t, e) + edge_pieces(v, t, e);
+        e += 1;
+    }
+    if begin != c.pieces {
+        return Pass::Fault(e);
+    }
+    Pass::Fine
+}

@@ -1,0 +1,149 @@
+// Volumes: what the content words mean, the road and edge rules, and opening. Answers to document 01,
+// "The volume". Travel times are said in the crate `travel`.
+use crate::edges::edges_pass;
+use crate::index::index_edges;
+use crate::roads::Pass;
+use crate::roads::roads_pass;
+use crate::tables::Counts;
+use crate::tables::Tables;
+use crate::tables::tables_of;
+use crate::tables::words_of;
+use block::content;
+use block::first_bad;
+use block::is_whole;
+ghost use mathlib.Core.Path.{_≡_};
+ghost use Prim.Native.Nat.{_+_, _*_, _/_, _≤_, _<_};
+ghost use lib.ListN.{length};
+ghost use Rattle.block.specs.Choose.{choose};
+ghost use Rattle.volume.specs.Format.{volumeOf, countsOf, Counted, Few, Laid};
+ghost use Rattle.volume.specs.Rules.{headFits, fillerZero, countsRule};
+ghost use Rattle.volume.specs.Passes.{edgesPass};
+ghost use Rattle.volume.specs.Open.{recordsOf, openOf};
+
+pub mod edges;
+pub mod index;
+pub mod roads;
+pub mod tables;
+
+pub enum Opening {
+    Opened(Counts),
+    Refused(u32, u64),
+}
+
+// N, R, P, E and Q as the head says.
+fn head(v: &[u8]) -> Counts
+    requires { ⌜ 512 ≤ length (now v) ⌝ }
+    ensures { λ r. ⌜ r ≡ countsOf (volumeOf (now (v .entry))) ⌝ }
+{
+    Counts {
+        junctions: content(v, 1) as usize,
+        roads: content(v, 2) as usize,
+        points: content(v, 3) as usize,
+        edges: content(v, 4) as usize,
+        pieces: content(v, 5) as usize,
+    }
+}
+
+// Are the counts within the limits?
+fn head_fits(c: Counts) -> bool
+    ensures { λ r. ⌜ r ≡ headFits c ⌝ }
+{
+    if 1 <= c.junctions {
+        if c.junctions <= 1024 {
+            if c.roads <= 4096 {
+                if c.points <= 65535 {
+                    if c.edges <= 16384 {
+                        return c.pieces <= 65535;
+                    }
+                }
+            }
+        }
+    }
+    false
+}
+
+// Are the content words of n blocks zero from word `words` on?
+fn filler_zero(v: &[u8], words: usize, blocks: usize) -> bool
+    requires { ⌜ (512 * blocks ≤ length (now v)) × (words ≤ 126 * blocks) ⌝ }
+    ensures { λ r. ⌜ r ≡ fillerZero (now (v .entry)) words blocks ⌝ }
+{
+    let n = 126 * blocks - words;
+    let mut i: usize = 0;
+    while i < n {
+        if content(v, words + i) != 0 {
+            return false;
+        }
+        i += 1;
+    }
+    true
+}
+
+// The pass over all edges, with the index that it walks.
+fn edges_indexed(v: &[u8], t: Tables, c: Counts) -> Pass
+    requires { ⌜ Laid (now v) t ⌝ }
+    requires { ⌜ Counted (volumeOf (now v)) c ⌝ }
+    requires { ⌜ Few c ⌝ }
+    ensures { λ r. ⌜ r ≡ edgesPass (volumeOf (now (v .entry))) ⌝ }
+{
+    let mut first = [0u16; 1024];
+    let mut next = [0u16; 16384];
+    index_edges(v, t, c, &mut first, &mut next);
+    edges_pass(v, t, c, &first, &next)
+}
+
+// Roads, then edges.
+fn open_records(v: &[u8], t: Tables, c: Counts) -> Opening
+    requires { ⌜ Laid (now v) t ⌝ }
+    requires { ⌜ c ≡ countsOf (volumeOf (now v)) ⌝ }
+    requires { ⌜ Few c ⌝ }
+    ensures { λ r. ⌜ r ≡ recordsOf (volumeOf (now (v .entry))) ⌝ }
+{
+    let roads = roads_pass(v, t, c);
+    if let Pass::Fault(k) = roads {
+        return Opening::Refused(5, k as u64);
+    }
+    let edges = edges_indexed(v, t, c);
+    if let Pass::Fault(e) = edges {
+        return Opening::Refused(6, e as u64);
+    }
+    Opening::Opened(c)
+}
+
+// Head, block count and filler, then the records.
+fn open_counts(v: &[u8], blocks: usize) -> Opening
+    requires { ⌜ (blocks ≡ length (now v) / 512) × (512 ≤ length (now v)) ⌝ }
+    ensures { λ r. ⌜ r ≡ choose (countsRule (now (v .entry)) (volumeOf (now (v .entry))) blocks) (recordsOf (volumeOf (now (v .entry)))) (Opening.Refused 4 0) ⌝ }
+{
+    let c = head(v);
+    if !head_fits(c) {
+        return Opening::Refused(4, 0);
+    }
+    let words = words_of(c);
+    if blocks != (words + 125) / 126 {
+        return Opening::Refused(4, 0);
+    }
+    if !filler_zero(v, words, blocks) {
+        return Opening::Refused(4, 0);
+    }
+    open_records(v, tables_of(c), c)
+}
+
+// Opens a volume: its counts, or the first refusal with its place.
+pub fn open(v: &[u8]) -> Opening
+    ensures { λ r. ⌜ r ≡ openOf (now (v .entry)) ⌝ }
+{
+    let size = v.len();
+    if !is_whole(size) {
+        return Opening::Refused(1, 0);
+    }
+    let blocks = size / 512;
+    let bad = first_bad(v, blocks);
+    if bad != blocks {
+        return Opening::Refused(2, bad as u64);
+    }
+    let edition = content(v, 0);
+    if edition != 1 {
+        return Opening::Refused(3, 0);
+    }
+    open_counts(v, blocks)
+}

@@ -1,0 +1,161 @@
+// The road rules.
+use crate::tables::Counts;
+use crate::tables::PERIOD;
+use crate::tables::Tables;
+use crate::tables::point_duration;
+use crate::tables::point_second;
+use crate::tables::road_first;
+use crate::tables::road_from;
+use crate::tables::road_points;
+use crate::tables::road_to;
+ghost use mathlib.Core.Path.{_≡_};
+ghost use Prim.Native.Nat.{_+_, _^_, _≤_, _<_};
+ghost use Rattle.block.specs.First.{allBelow};
+ghost use Rattle.volume.specs.Format.{volumeOf, Counted, Laid, day};
+ghost use Rattle.volume.specs.Rules.{endsFit, placed, begins, pointFits, pointRule, roadRule};
+ghost use Rattle.volume.specs.Passes.{roadsPass, IsPoint, IsNext};
+
+const LONGEST: u64 = 86400;
+
+// What a pass over all roads or edges finds: nothing, or the place of the first fault.
+pub enum Pass {
+    Fine,
+    Fault(usize),
+}
+
+// Do two ends differ and lie below n?
+pub fn ends_fit(n: usize, from: usize, to: usize) -> bool
+    ensures { λ r. ⌜ r ≡ endsFit n from to ⌝ }
+{
+    if from != to {
+        if from < n {
+            return to < n;
+        }
+    }
+    false
+}
+
+// Do the parts of a record begin at `begin` and lie inside the table?
+pub fn is_placed(begin: usize, total: usize, first: usize, number: usize) -> bool
+    requires { ⌜ (first < 2 ^ 32) × (number < 2 ^ 32) ⌝ }
+    ensures { λ r. ⌜ r ≡ placed begin total first number ⌝ }
+{
+    if 1 <= number {
+        if first == begin {
+            return first + number <= total;
+        }
+    }
+    false
+}
+
+pub struct Point {
+    pub second: u64,
+    pub duration: u64,
+}
+
+// Point i of all.
+fn point_at(v: &[u8], t: Tables, i: usize) -> Point
+    requires { ⌜ Laid (now v) t ⌝ }
+    requires { ⌜ i < volumeOf (now v) .points ⌝ }
+    ensures { λ r. ⌜ IsPoint (volumeOf (now (v .entry))) i r ⌝ }
+{
+    Point {
+        second: point_second(v, t, i),
+        duration: point_duration(v, t, i),
+    }
+}
+
+// The point after point i of the n points from `first` on.
+fn next_point(v: &[u8], t: Tables, first: usize, n: usize, i: usize) -> Point
+    requires { ⌜ Laid (now v) t ⌝ }
+    requires { ⌜ (i < n) × (first + n ≤ volumeOf (now v) .points) × (first < 2 ^ 32) × (n < 2 ^ 32) ⌝ }
+    ensures { λ r. ⌜ IsNext (volumeOf (now (v .entry))) first n i r ⌝ }
+{
+    let j = i + 1;
+    if j < n {
+        return point_at(v, t, first + j);
+    }
+    let again = point_at(v, t, first);
+    Point {
+        second: again.second + PERIOD,
+        duration: again.duration,
+    }
+}
+
+// Does the point (t0, f0) fit before the point (t1, f1)?
+fn point_fits(t0: u64, f0: u64, t1: u64, f1: u64) -> bool
+    requires { ⌜ (t1 < 2 ^ 33) × (f1 < 2 ^ 32) ⌝ }
+    ensures { λ r. ⌜ r ≡ pointFits day t0 f0 t1 f1 ⌝ }
+{
+    if t0 < PERIOD {
+        if 1 <= f0 {
+            if f0 <= LONGEST {
+                if t0 < t1 {
+                    return f0 <= f1 + (t1 - t0);
+                }
+            }
+        }
+    }
+    false
+}
+
+// Do the n points from `first` on obey? Each is read once.
+fn points_fit(v: &[u8], t: Tables, first: usize, n: usize) -> bool
+    requires { ⌜ Laid (now v) t ⌝ }
+    requires { ⌜ (1 ≤ n) × (first + n ≤ volumeOf (now v) .points) × (first < 2 ^ 32) × (n < 2 ^ 32) ⌝ }
+    ensures { λ r. ⌜ r ≡ allBelow n (pointRule (volumeOf (now (v .entry))) first n) ⌝ }
+{
+    let mut a = point_at(v, t, first);
+    let mut i: usize = 0;
+    while i < n {
+        let b = next_point(v, t, first, n, i);
+        if !point_fits(a.second, a.duration, b.second, b.duration) {
+            return false;
+        }
+        a = b;
+        i += 1;
+    }
+    true
+}
+
+// Does road k obey? Its points are to begin at `begin`.
+fn road_fits(v: &[u8], t: Tables, c: Counts, k: usize, begin: usize) -> bool
+    requires { ⌜ Laid (now v) t ⌝ }
+    requires { ⌜ Counted (volumeOf (now v)) c ⌝ }
+    requires { ⌜ k < volumeOf (now v) .roads ⌝ }
+    requires { ⌜ begin ≡ begins (volumeOf (now v) .road-first) (volumeOf (now v) .road-points) k ⌝ }
+    ensures { λ r. ⌜ r ≡ roadRule (volumeOf (now (v .entry))) k ⌝ }
+{
+    let from = road_from(v, t, k);
+    let to = road_to(v, t, k);
+    if ends_fit(c.junctions, from, to) {
+        let first = road_first(v, t, k);
+        let n = road_points(v, t, k);
+        if is_placed(begin, c.points, first, n) {
+            return points_fit(v, t, first, n);
+        }
+    }
+    false
+}
+
+// The pass over all roads: the first at fault, or R where points are left over.
+pub fn roads_pass(v: &[u8], t: Tables, c: Counts) -> Pass
+    requires { ⌜ Laid (now v) t ⌝ }
+    requires { ⌜ Counted (volumeOf (now v)) c ⌝ }
+    ensures { λ r. ⌜ r ≡ roadsPass (volumeOf (now (v .entry))) ⌝ }
+{
+    let n = c.roads;
+    let mut begin: usize = 0;
+    let mut k: usize = 0;
+    while k < n {
+        if !road_fits(v, t, c, k, begin) {
+            return Pass::Fault(k);
+        }
+        begin = road_first(v, t, k) + road_points(v, t, k);
+        k += 1;
+    }
+    if begin != c.points {
+        return Pass::Fault(k);
+    }
+    Pass::Fine
+}

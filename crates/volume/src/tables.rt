@@ -1,0 +1,195 @@
+// The tables of a volume, with one reader for each field of a record. How many words a record has and
+// where each table begins is said here and in specs/Format.antt, and nowhere else.
+use block::content;
+ghost use mathlib.Core.Path.{_≡_};
+ghost use Prim.Native.Nat.{_^_, _<_};
+ghost use Rattle.volume.specs.Format.{volumeOf, Laid, Few, tablesOf, wordsIn};
+
+const HEAD_WORDS: usize = 6;
+
+const ROAD_WORDS: usize = 4;
+
+const POINT_WORDS: usize = 2;
+
+const EDGE_WORDS: usize = 5;
+
+const PIECE_WORDS: usize = 3;
+
+// After how many seconds a volume repeats.
+pub const PERIOD: u64 = 86400;
+
+// The right of a piece with an empty middle: its left is a road.
+pub const EMPTY: usize = 4294967295;
+
+pub struct Counts {
+    pub junctions: usize,
+    pub roads: usize,
+    pub points: usize,
+    pub edges: usize,
+    pub pieces: usize,
+}
+
+// Where the tables of points, edges and pieces begin, as content words.
+pub struct Tables {
+    pub points: usize,
+    pub edges: usize,
+    pub pieces: usize,
+}
+
+// Where the tables begin, from the counts.
+pub fn tables_of(c: Counts) -> Tables
+    requires { ⌜ Few c ⌝ }
+    ensures { λ r. ⌜ r ≡ tablesOf c ⌝ }
+{
+    let points = HEAD_WORDS + ROAD_WORDS * c.roads;
+    let edges = points + POINT_WORDS * c.points;
+    Tables {
+        points,
+        edges,
+        pieces: edges + EDGE_WORDS * c.edges,
+    }
+}
+
+// How many content words there are in all.
+pub fn words_of(c: Counts) -> usize
+    requires { ⌜ Few c ⌝ }
+    ensures { λ r. ⌜ r ≡ wordsIn c ⌝ }
+{
+    tables_of(c).pieces + PIECE_WORDS * c.pieces
+}
+
+// The junction where road k begins.
+pub fn road_from(v: &[u8], t: Tables, k: usize) -> usize
+    requires { ⌜ Laid (now v) t ⌝ }
+    requires { ⌜ k < volumeOf (now v) .roads ⌝ }
+    ensures { λ r. ⌜ (r ≡ volumeOf (now (v .entry)) .road-from k) × (r < 2 ^ 32) ⌝ }
+{
+    content(v, HEAD_WORDS + ROAD_WORDS * k) as usize
+}
+
+// The junction where road k ends.
+pub fn road_to(v: &[u8], t: Tables, k: usize) -> usize
+    requires { ⌜ Laid (now v) t ⌝ }
+    requires { ⌜ k < volumeOf (now v) .roads ⌝ }
+    ensures { λ r. ⌜ (r ≡ volumeOf (now (v .entry)) .road-to k) × (r < 2 ^ 32) ⌝ }
+{
+    content(v, HEAD_WORDS + ROAD_WORDS * k + 1) as usize
+}
+
+// The first point of road k.
+pub fn road_first(v: &[u8], t: Tables, k: usize) -> usize
+    requires { ⌜ Laid (now v) t ⌝ }
+    requires { ⌜ k < volumeOf (now v) .roads ⌝ }
+    ensures { λ r. ⌜ (r ≡ volumeOf (now (v .entry)) .road-first k) × (r < 2 ^ 32) ⌝ }
+{
+    content(v, HEAD_WORDS + ROAD_WORDS * k + 2) as usize
+}
+
+// How many points road k has.
+pub fn road_points(v: &[u8], t: Tables, k: usize) -> usize
+    requires { ⌜ Laid (now v) t ⌝ }
+    requires { ⌜ k < volumeOf (now v) .roads ⌝ }
+    ensures { λ r. ⌜ (r ≡ volumeOf (now (v .entry)) .road-points k) × (r < 2 ^ 32) ⌝ }
+{
+    content(v, HEAD_WORDS + ROAD_WORDS * k + 3) as usize
+}
+
+// The second of day of point i.
+pub fn point_second(v: &[u8], t: Tables, i: usize) -> u64
+    requires { ⌜ Laid (now v) t ⌝ }
+    requires { ⌜ i < volumeOf (now v) .points ⌝ }
+    ensures { λ r. ⌜ (r ≡ volumeOf (now (v .entry)) .point-second i) × (r < 2 ^ 32) ⌝ }
+{
+    let base = t.points;
+    content(v, base + POINT_WORDS * i) as u64
+}
+
+// The duration at point i.
+pub fn point_duration(v: &[u8], t: Tables, i: usize) -> u64
+    requires { ⌜ Laid (now v) t ⌝ }
+    requires { ⌜ i < volumeOf (now v) .points ⌝ }
+    ensures { λ r. ⌜ (r ≡ volumeOf (now (v .entry)) .point-duration i) × (r < 2 ^ 32) ⌝ }
+{
+    let base = t.points;
+    content(v, base + POINT_WORDS * i + 1) as u64
+}
+
+// The junction where edge e begins.
+pub fn edge_from(v: &[u8], t: Tables, e: usize) -> usize
+    requires { ⌜ Laid (now v) t ⌝ }
+    requires { ⌜ e < volumeOf (now v) .edges ⌝ }
+    ensures { λ r. ⌜ (r ≡ volumeOf (now (v .entry)) .edge-from e) × (r < 2 ^ 32) ⌝ }
+{
+    let base = t.edges;
+    content(v, base + EDGE_WORDS * e) as usize
+}
+
+// The junction where edge e ends.
+pub fn edge_to(v: &[u8], t: Tables, e: usize) -> usize
+    requires { ⌜ Laid (now v) t ⌝ }
+    requires { ⌜ e < volumeOf (now v) .edges ⌝ }
+    ensures { λ r. ⌜ (r ≡ volumeOf (now (v .entry)) .edge-to e) × (r < 2 ^ 32) ⌝ }
+{
+    let base = t.edges;
+    content(v, base + EDGE_WORDS * e + 1) as usize
+}
+
+// The first piece of edge e.
+pub fn edge_first(v: &[u8], t: Tables, e: usize) -> usize
+    requires { ⌜ Laid (now v) t ⌝ }
+    requires { ⌜ e < volumeOf (now v) .edges ⌝ }
+    ensures { λ r. ⌜ (r ≡ volumeOf (now (v .entry)) .edge-first e) × (r < 2 ^ 32) ⌝ }
+{
+    let base = t.edges;
+    content(v, base + EDGE_WORDS * e + 2) as usize
+}
+
+// How many pieces edge e has.
+pub fn edge_pieces(v: &[u8], t: Tables, e: usize) -> usize
+    requires { ⌜ Laid (now v) t ⌝ }
+    requires { ⌜ e < volumeOf (now v) .edges ⌝ }
+    ensures { λ r. ⌜ (r ≡ volumeOf (now (v .entry)) .edge-pieces e) × (r < 2 ^ 32) ⌝ }
+{
+    let base = t.edges;
+    content(v, base + EDGE_WORDS * e + 3) as usize
+}
+
+// The span of edge e.
+pub fn edge_span(v: &[u8], t: Tables, e: usize) -> usize
+    requires { ⌜ Laid (now v) t ⌝ }
+    requires { ⌜ e < volumeOf (now v) .edges ⌝ }
+    ensures { λ r. ⌜ (r ≡ volumeOf (now (v .entry)) .edge-span e) × (r < 2 ^ 32) ⌝ }
+{
+    let base = t.edges;
+    content(v, base + EDGE_WORDS * e + 4) as usize
+}
+
+// The second at which piece p starts.
+pub fn piece_start(v: &[u8], t: Tables, p: usize) -> u64
+    requires { ⌜ Laid (now v) t ⌝ }
+    requires { ⌜ p < volumeOf (now v) .pieces ⌝ }
+    ensures { λ r. ⌜ (r ≡ volumeOf (now (v .entry)) .piece-start p) × (r < 2 ^ 32) ⌝ }
+{
+    let base = t.pieces;
+    content(v, base + PIECE_WORDS * p) as u64
+}
+
+// The left of piece p: an edge, or a road where the middle is empty.
+pub fn piece_left(v: &[u8], t: Tables, p: usize) -> usize
+    requires { ⌜ Laid (now v) t ⌝ }
+    requires { ⌜ p < volumeOf (now v) .pieces ⌝ }
+    ensures { λ r. ⌜ (r ≡ volumeOf (now (v .entry)) .piece-left p) × (r < 2 ^ 32) ⌝ }
+{
+    let base = t.pieces;
+    content(v, base + PIECE_WORDS * p + 1) as usize
+}
+
+// The right of piece p: an edge, or EMPTY.
+pub fn piece_right(v: &[u8], t: Tables, p: usize) -> usize
+    requires { ⌜ Laid (now v) t ⌝ }
+    requires { ⌜ p < volumeOf (now v) .pieces ⌝ }
+    ensures { λ r. ⌜ (r ≡ volumeOf (now (v .entry)) .piece-right p) × (r < 2 ^ 32) ⌝ }
+{
+    let base = t.pieces;
+    content(v, base + PIECE_WORDS * p + 2) as usize
+}
