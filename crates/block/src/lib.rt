@@ -40,7 +40,7 @@ pub fn content(v: &[u8], w: usize) -> u32
 }
 
 // Writes x as word i of v.
-fn put_word(v: &mut [u8], i: usize, x: u32)
+pub fn put_word(v: &mut [u8], i: usize, x: u32)
     requires { ⌜ 4 * i + 3 < length (now v) ⌝ }
     ensures { λ r. ⌜ now (v .exit) ≡ putWord (now (v .entry)) i x ⌝ }
 {

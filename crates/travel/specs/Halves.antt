@@ -1,5 +1,5 @@
 -- An edge by one of its pieces, over plain numbers: what the code of an edge asks and gets where the piece is a road, and where it is
--- two halves in turn. l and r are the piece's left and right, and `fits` says that no sum on the way leaves 64 bits.
+-- two halves in turn.
 use Prim.Native.Nat.{ℕ, _+_, _*_, _%_, _^_, _≤_, _<_}
 use mathlib.Core.Path.{_≡_, ap, ap₂, sym, _∙_}
 use mathlib.Core.Logic.{_≢_}
@@ -13,7 +13,16 @@ use Rattle.theory.specs.Unfold.{roads-by-piece, roads-of-edge, unfold-is}
 use Rattle.volume.specs.Format.{Volume}
 use Rattle.volume.specs.Rules.{longest, empty}
 use Rattle.volume.specs.Sound.{PairPiece, Sound}
-use Rattle.travel.specs.Network.{networkOf, pieceAt, pieceOf, arrival, pieceArrival, roadsOf, roadTime, period-of, edges-of, in-force-of, piece-road, piece-pair, HasPiece, Enters, has-piece, road-at, pair-at, sound-network, bounded}
+use Rattle.travel.specs.Network.{networkOf, pieceAt, pieceOf, arrival, pieceArrival, roadsOf, roadTime, HasPiece, Enters}
+use Rattle.travel.specs.Network.{period-of, edges-of, in-force-of, piece-road, piece-pair, has-piece, road-at, pair-at, sound-network, bounded}
+
+-- what the code has in hand: piece p of edge e, which is entered at x, and the piece's left l and right r
+pub record InHand (vol : Volume) (e x p l r : ℕ) : Type 0 where
+  pub sound : Sound vol
+  pub enters : Enters vol e x
+  pub has : HasPiece vol e p
+  pub left : l ≡ vol .piece-left p
+  pub right : r ≡ vol .piece-right p
 
 -- the halves l and r of a piece of edge e, which is entered at x
 pub record Halves (vol : Volume) (e x l r : ℕ) : Type 0 where
@@ -80,60 +89,64 @@ module _ (vol : Volume) (S : Sound vol) where
           rw (is e x (pair-of l r) h i)
           (omega (arith, spans e x (pair-of l r) h i, length-append (roadsOf vol l x) (roadsOf vol r (arrival vol l x))))
 
-  module _ (e x p l r : ℕ) (E : Enters vol e x) (of : HasPiece vol e p) (hl : l ≡ vol .piece-left p) (hr : r ≡ vol .piece-right p) where
-    -- a road
-    module _ (q : r ≡ empty) where
-      is-road : pieceOf vol p ≡ road-of l
-      is-road = piece-road vol p (sym hr ∙ q) ∙ ap road-of (sym hl)
+module _ {vol : Volume} {e x p l r : ℕ} (H : InHand vol e x p l r) where
+  -- a road
+  module _ (q : r ≡ empty) where
+    is-road : pieceOf vol p ≡ road-of l
+    is-road = piece-road vol p (sym (H .right) ∙ q) ∙ ap road-of (sym (H .left))
 
-      pub road-there : l < vol .roads
-      road-there = rw hl (road-at vol S e p (E .there) of (sym hr ∙ q) .road)
+    pub road-there : l < vol .roads
+    road-there = rw (H .left) (road-at vol (H .sound) e p (H .enters .there) (H .has) (sym (H .right) ∙ q) .road)
 
-      pub road-arrives : (d : ℕ) → d ≡ roadTime vol l x → x + d ≡ pieceArrival vol p x
-      road-arrives d k =
-          ap (λ (a : ℕ). x + a) (k ∙ ap (λ (t : ℕ). networkOf vol .duration l (x % t)) (sym (period-of vol)))
-          ∙ sym (ap (by-piece (networkOf vol) (edge-arr (networkOf vol)) x) is-road)
+    pub road-arrives : (d : ℕ) → d ≡ roadTime vol l x → x + d ≡ pieceArrival vol p x
+    road-arrives d k =
+        ap (λ (a : ℕ). x + a) (k ∙ ap (λ (t : ℕ). networkOf vol .duration l (x % t)) (sym (period-of vol)))
+        ∙ sym (ap (by-piece (networkOf vol) (edge-arr (networkOf vol)) x) is-road)
 
-    -- two halves
-    module _ (q : r ≢ empty) where
-      pair : PairPiece vol e p
-      pair = pair-at vol S e p (E .there) of (λ z. q (hr ∙ z))
+  -- two halves
+  module _ (q : r ≢ empty) where
+    pair : PairPiece vol e p
+    pair = pair-at vol (H .sound) e p (H .enters .there) (H .has) (λ z. q (H .right ∙ z))
 
-      is-pair : pieceOf vol p ≡ pair-of l r
-      is-pair = piece-pair vol p (λ z. q (hr ∙ z)) ∙ ap₂ pair-of (sym hl) (sym hr)
+    is-pair : pieceOf vol p ≡ pair-of l r
+    is-pair = piece-pair vol p (λ z. q (H .right ∙ z)) ∙ ap₂ pair-of (sym (H .left)) (sym (H .right))
 
-      pub halves : Halves vol e x l r
-      halves =
-          let k = pair in
-          let spans : vol .edge-span l + vol .edge-span r ≤ vol .edge-span e = rw (hl, hr) (k .span) in
-          let ll : l < e = rw hl (k .left) in
-          let rl : r < e = rw hr (k .right) in
-          record {
-            left-below = ll;
-            right-below = rl;
-            left = record { there = omega (arith, E .there); fits = omega (arith, E .fits) };
-            right = λ a ha. record {
-              there = omega (arith, E .there);
-              fits = omega (arith, E .fits, edge-short l x (omega (arith, E .there)));
-            };
-            sum = λ a b ha hb.
-                omega (
-                  arith,
-                  E .fits,
-                  edge-short l x (omega (arith, E .there)),
-                  edge-short r (x + a) (omega (arith, E .there)),
-                );
-          }
+    pub halves : Halves vol e x l r
+    halves =
+        let k = pair in
+        let spans : vol .edge-span l + vol .edge-span r ≤ vol .edge-span e = rw (H .left, H .right) (k .span) in
+        let ll : l < e = rw (H .left) (k .left) in
+        let rl : r < e = rw (H .right) (k .right) in
+        record {
+          left-below = ll;
+          right-below = rl;
+          left = record { there = omega (arith, H .enters .there); fits = omega (arith, H .enters .fits) };
+          right = λ a ha. record {
+            there = omega (arith, H .enters .there);
+            fits = omega (arith, H .enters .fits, edge-short vol (H .sound) l x (omega (arith, H .enters .there)));
+          };
+          sum = λ a b ha hb.
+              omega (
+                arith,
+                H .enters .fits,
+                edge-short vol (H .sound) l x (omega (arith, H .enters .there)),
+                edge-short vol (H .sound) r (x + a) (omega (arith, H .enters .there)),
+              );
+        }
 
-      pub halves-arrive : (a b : ℕ) → x + a ≡ arrival vol l x → x + a + b ≡ arrival vol r (x + a) → x + (a + b) ≡ pieceArrival vol p x
-      halves-arrive a b ha hb =
-          let z : x + (a + b) ≡ x + a + b = omega arith in
-          z ∙ hb ∙ ap (arrival vol r) ha ∙ sym (ap (by-piece (networkOf vol) (edge-arr (networkOf vol)) x) is-pair)
+    pub halves-arrive : (a b : ℕ) → x + a ≡ arrival vol l x → x + a + b ≡ arrival vol r (x + a) → x + (a + b) ≡ pieceArrival vol p x
+    halves-arrive a b ha hb =
+        let z : x + (a + b) ≡ x + a + b = omega arith in
+        z ∙ hb ∙ ap (arrival vol r) ha ∙ sym (ap (by-piece (networkOf vol) (edge-arr (networkOf vol)) x) is-pair)
 
-    -- the roads of an edge, where p is its piece in force
-    module _ (f : p ≡ pieceAt vol e (x % vol .period)) where
-      pub roads-one : r ≡ empty → roadsOf vol e x ≡ l ∷ []
-      roads-one q = roads-by e x p (E .there) f ∙ ap (roads-by-piece (networkOf vol) (roads-of-edge (networkOf vol)) x) (is-road q)
+  -- the roads of an edge, where p is its piece in force
+  module _ (f : p ≡ pieceAt vol e (x % vol .period)) where
+    pub roads-one : r ≡ empty → roadsOf vol e x ≡ l ∷ []
+    roads-one q =
+        roads-by vol (H .sound) e x p (H .enters .there) f
+        ∙ ap (roads-by-piece (networkOf vol) (roads-of-edge (networkOf vol)) x) (is-road q)
 
-      pub roads-two : r ≢ empty → roadsOf vol e x ≡ roadsOf vol l x ++ roadsOf vol r (arrival vol l x)
-      roads-two q = roads-by e x p (E .there) f ∙ ap (roads-by-piece (networkOf vol) (roads-of-edge (networkOf vol)) x) (is-pair q)
+    pub roads-two : r ≢ empty → roadsOf vol e x ≡ roadsOf vol l x ++ roadsOf vol r (arrival vol l x)
+    roads-two q =
+        roads-by vol (H .sound) e x p (H .enters .there) f
+        ∙ ap (roads-by-piece (networkOf vol) (roads-of-edge (networkOf vol)) x) (is-pair q)

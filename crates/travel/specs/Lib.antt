@@ -1,4 +1,5 @@
 pub mod Promises
+pub mod Times
 pub mod Last
 pub mod Road
 pub mod Between

@@ -2,7 +2,7 @@
 -- sound network, and its edges take no longer than the longest duration for each road of their span; so the theory's promises
 -- apply to a volume's bytes. Callers use the laws here and do not open `networkOf`.
 use Prim.Native.Nat.{ℕ, _+_, _-_, _*_, _%_, _^_, _≤_, _<_}
-use mathlib.Core.Path.{_≡_, refl, sym}
+use mathlib.Core.Path.{_≡_, refl, ap, sym}
 use mathlib.Core.Logic.{_≢_}
 use mathlib.Core.List.{List}
 use lib.Dec.{eqb}
@@ -103,6 +103,10 @@ module _ (vol : Volume) where
 abbrev pub roadTime : Volume → ℕ → ℕ → ℕ
 roadTime vol k x = networkOf vol .duration k (x % vol .period)
 
+-- x is the same second of the period, whichever name the period has
+pub same-second : (x : ℕ) {p q : ℕ} → p ≡ q → x % q ≡ x % p
+same-second x e = ap (λ (p : ℕ). x % p) (sym e)
+
 -- the arrival over edge e entered at x
 abbrev pub arrival : Volume → ℕ → ℕ → ℕ
 arrival vol e x = edge-arr (networkOf vol) e x
@@ -175,7 +179,8 @@ module _ (vol : Volume) (S : Sound vol) where
     fits = λ e t h l. piece-fits e (pieceAt vol e t) h (has-piece e t h) .0;
   }
     where
-      one-edge : (d e : ℕ) → d < vol .edges → e < vol .edges → vol .edge-from d ≡ vol .edge-from e → vol .edge-to d ≡ vol .edge-to e → d ≡ e
+      one-edge : (d e : ℕ) → d < vol .edges → e < vol .edges → vol .edge-from d ≡ vol .edge-from e → vol .edge-to d ≡ vol .edge-to e
+          → d ≡ e
       one-edge d e a b f t = go (decLt d e) (decLt e d)
         where
           go : Dec (d < e) → Dec (e < d) → d ≡ e

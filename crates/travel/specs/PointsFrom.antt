@@ -92,22 +92,35 @@ module _ (vol : Volume) (first n i x t₀ f₀ t₁ f₁ : ℕ) (Q : PointsFrom 
         let k = over in
         y ∙ rw (e₀, g₀, k .0, k .1, q .0, q .1)
 
--- the points of road k, for who enters it at x, which is second t of the period
-module _ (vol : Volume) (S : Sound vol) (k first n : ℕ) (h : k < vol .roads) (f : first ≡ vol .road-first k) (c : n ≡ vol .road-points k) where
+-- road k has n points, from point `first` on
+pub record OfRoad (vol : Volume) (k first n : ℕ) : Type 0 where
+  pub sound : Sound vol
+  pub there : k < vol .roads
+  pub begins : first ≡ vol .road-first k
+  pub number : n ≡ vol .road-points k
+
+pub of-road : {vol : Volume} {k first n : ℕ} → Sound vol → k < vol .roads → first ≡ vol .road-first k
+    → n ≡ vol .road-points k → OfRoad vol k first n
+of-road s h b c = record { sound = s; there = h; begins = b; number = c }
+
+module _ {vol : Volume} {k first n : ℕ} (R : OfRoad vol k first n) where
   pub points-from : PointsFrom vol first n
-  points-from = rw (f, c) (record { inside = S .road k h .inside; points = S .road k h .points })
+  points-from =
+      let road = R .sound .road k (R .there) in
+      rw (R .begins, R .number) (record { inside = road .inside; points = road .points })
 
   at-first : secondFrom vol first 0 ≡ vol .point-second first
   at-first = ap (vol .point-second) (let z : first + 0 ≡ first = omega arith in z)
 
+  -- entered at x, which is second t of the period
   module _ (x t : ℕ) (m : t ≡ x % vol .period) where
     in-period : t < vol .period
-    in-period = rw m (mod-lt x (S .period))
+    in-period = rw m (mod-lt x (R .sound .period))
 
     -- the road's duration is that of these points
     duration-from : roadTime vol k x ≡ roadDuration (vol .period) n (secondFrom vol first) (durationFrom vol first) t
     unfolding durationAt
-    duration-from = rw (f, c, m) (duration-of vol k (x % vol .period))
+    duration-from = rw (R .begins, R .number, m) (duration-of vol k (x % vol .period))
 
     -- one point
     pub one-is : (r : ℕ) → n ≡ 1 → r ≡ vol .point-duration first → r ≡ roadTime vol k x

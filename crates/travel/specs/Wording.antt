@@ -132,7 +132,8 @@ module _ (period n : ℕ) (s d : ℕ → ℕ) (P : Points period n s d) (t : ℕ
         le = a;
         above = λ j g k. above-from s n t (i + 1) (P .rise) b j (omega arith) k;
       } in
-      let e = road-late period n s d t i (omega (arith, rise-far s n (P .rise) 0 i (omega arith) (omega arith))) (sym (last-is s n t i last)) in
+      let first : s 0 ≤ t = omega (arith, rise-far s n (P .rise) 0 i (omega arith) (omega arith)) in
+      let e = road-late period n s d t i first (sym (last-is s n t i last)) in
       rw (q .0, q .1) at (on-line i t (point-line period n s d P t i (omega arith) last) e)
 
   -- after the last point: the first of the next period is the right neighbour
@@ -141,7 +142,8 @@ module _ (period n : ℕ) (s d : ℕ → ℕ) (P : Points period n s d) (t : ℕ
       let q = right-over period n s d (n - 1) (omega arith) in
       let some = P .some in
       let last : IsLast s n t (n - 1) = record { below = omega arith; le = a; above = λ j g k. absurd (omega arith) } in
-      let e = road-late period n s d t (n - 1) (omega (arith, rise-far s n (P .rise) 0 (n - 1) (omega arith) (omega arith))) (sym (last-is s n t (n - 1) last)) in
+      let first : s 0 ≤ t = omega (arith, rise-far s n (P .rise) 0 (n - 1) (omega arith) (omega arith)) in
+      let e = road-late period n s d t (n - 1) first (sym (last-is s n t (n - 1) last)) in
       rw (q .0, q .1) at (on-line (n - 1) t (point-line period n s d P t (n - 1) (omega arith) last) e)
 
   -- before the first point: the last of the period before is the left neighbour. The seconds are counted from that period's start.

@@ -1,9 +1,10 @@
 // How long an edge takes at a departure: document 01, "Travel time". The edge asks its piece in force, and the piece asks the edges
 // below: one cycle of calls, in which the edge number falls.
 use crate::last::last_at;
-use crate::road::PERIOD;
 use crate::road::road_duration;
 use volume::tables::EMPTY;
+use volume::tables::PERIOD;
+use volume::tables::PIECE_WORDS;
 use volume::tables::Tables;
 use volume::tables::edge_first;
 use volume::tables::edge_pieces;
@@ -14,9 +15,6 @@ ghost use Prim.Native.Nat.{_+_, _%_, _<_};
 ghost use Rattle.volume.specs.Format.{volumeOf, Laid};
 ghost use Rattle.volume.specs.Sound.{Sound};
 ghost use Rattle.travel.specs.Network.{pieceAt, HasPiece, Enters, arrival, pieceArrival};
-
-// The words of a piece.
-const PIECE_WORDS: usize = 3;
 
 // The number of edge e's piece in force at x.
 pub fn piece_in_force(v: &[u8], t: Tables, e: usize, x: u64) -> usize

@@ -16,7 +16,7 @@ ghost use Rattle.travel.specs.Unfolds.{Unfolds};
 ghost use Rattle.travel.specs.Written.{withRoads};
 
 // How many roads an edge unfolds to, and how long they take. Both in one answer: the right half is entered when the left one arrives,
-// and a second walk of the left half for its duration would double the work at every level.
+// and asking for the left half's duration by itself would walk that half again at every level.
 pub struct Unfolded {
     pub roads: usize,
     pub duration: u64,

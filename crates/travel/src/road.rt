@@ -1,5 +1,7 @@
 // How long a road takes at a second: document 01, "Travel time". A road's points are a row of the table of points.
 use crate::last::last_at;
+use volume::tables::PERIOD;
+use volume::tables::POINT_WORDS;
 use volume::tables::Tables;
 use volume::tables::point_duration;
 use volume::tables::point_second;
@@ -12,12 +14,6 @@ ghost use Rattle.volume.specs.Sound.{Sound};
 ghost use Rattle.travel.specs.Road.{between};
 ghost use Rattle.travel.specs.PointsFrom.{PointsFrom, LineFrom, durationOn, Ends};
 ghost use Rattle.travel.specs.Network.{roadTime};
-
-// After how many seconds roads and edges repeat.
-pub const PERIOD: u64 = 86400;
-
-// The words of a point.
-const POINT_WORDS: usize = 2;
 
 // The duration at x between the points (t0, f0) and (t1, f1).
 fn line(t0: u64, f0: u64, t1: u64, f1: u64, x: u64) -> u64

@@ -9,11 +9,11 @@ const HEAD_WORDS: usize = 6;
 
 const ROAD_WORDS: usize = 4;
 
-const POINT_WORDS: usize = 2;
+pub const POINT_WORDS: usize = 2;
 
 const EDGE_WORDS: usize = 5;
 
-const PIECE_WORDS: usize = 3;
+pub const PIECE_WORDS: usize = 3;
 
 // After how many seconds a volume repeats.
 pub const PERIOD: u64 = 86400;

@@ -1,7 +1,8 @@
 use Prim.Native.Nat.{ℕ, _+_, _*_, _<_}
 use mathlib.Core.Path.{sym, _∙_}
 use native.Mathlib.Omega.{arith}
-use Rattle.travel.specs.Halves.{edge-by-piece, force-has, piece-in, road-there, road-arrives, halves, halves-arrive}
+use Rattle.volume.specs.Format.{volumeOf}
+use Rattle.travel.specs.Halves.{InHand, edge-by-piece, force-has, piece-in, road-there, road-arrives, halves, halves-arrive}
 use borrow.Fn.Kinds.{In}
 use borrow.Fn.PlainCycle.{Measures, is, falls, and}
 use Rattle.travel.proofs.edge.edge_duration.Reads as edge-duration
@@ -91,6 +92,20 @@ edge-duration-returns t c =
     c .piece-duration .ensures
     ∙ sym (edge-by-piece _ (s .pre .1 .1 .0) (s .args .e) (s .args .x) _ (E .there) (c .before .piece-in-force .ensures))
 
+-- the piece, once its left and right are read
+in-hand : (t : ℕ) (c : piece-duration-lts.After-piece-right (piece-calls t) (piece-duration-at t) piece-duration.Post)
+    → InHand (volumeOf (c .before .before .before .args .v .now)) (c .before .before .before .args .e) (c .before .before .before .args .x)
+    (c .before .before .before .args .p) (c .before .piece-left .result) (c .piece-right .result)
+in-hand t c =
+    let s = c .before .before .before in
+    record {
+      sound = s .pre .1 .1 .0;
+      enters = s .pre .1 .1 .1 .0;
+      has = s .pre .1 .1 .1 .1;
+      left = c .before .piece-left .ensures .0;
+      right = c .piece-right .ensures .0;
+    }
+
 piece-duration-piece-left-requires : (t : ℕ) → piece-duration-lts.Need-piece-left-requires (piece-calls t) (piece-duration-at t) piece-duration.Post
 piece-duration-piece-left-requires t c κs =
     let s = c .before in
@@ -103,29 +118,27 @@ piece-duration-piece-right-requires t c κs =
 
 piece-duration-road-duration-requires : (t : ℕ) → piece-duration-lts.Need-road-duration-requires (piece-calls t) (piece-duration-at t) piece-duration.Post
 piece-duration-road-duration-requires t c κs =
-    let d = c in
-    let s = d .before .before .before .before in
-    (s .pre .1 .0, (s .pre .1 .1 .0, road-there _ (s .pre .1 .1 .0) (s .args .e) (s .args .x) (s .args .p) _ _ (s .pre .1 .1 .1 .0) (s .pre .1 .1 .1 .1) (d .before .before .piece-left .ensures .0) (d .before .piece-right .ensures .0) (d .if1 .taken)))
+    let s = c .before .before .before .before in
+    (s .pre .1 .0, (s .pre .1 .1 .0, road-there (in-hand t (c .before)) (c .if1 .taken)))
 
 piece-duration-returns : (t : ℕ) → piece-duration-lts.Need-returns (piece-calls t) (piece-duration-at t) piece-duration.Post
 piece-duration-returns t c =
     let d = c .before in
     let s = d .before .before .before .before in
-    road-arrives _ (s .pre .1 .1 .0) (s .args .e) (s .args .x) (s .args .p) _ _ (s .pre .1 .1 .1 .0) (s .pre .1 .1 .1 .1) (d .before .before .piece-left .ensures .0) (d .before .piece-right .ensures .0) (d .if1 .taken) _ (c .road-duration .ensures)
+    road-arrives (in-hand t (d .before)) (d .if1 .taken) _ (c .road-duration .ensures)
 
 piece-duration-edge-duration-requires : (t : ℕ) → piece-duration-lts.Need-edge-duration-requires (piece-calls t) (piece-duration-at t) piece-duration.Post
 piece-duration-edge-duration-requires t c κs =
-    let d = c in
-    let s = d .before .before .before .before in
-    let H = halves _ (s .pre .1 .1 .0) (s .args .e) (s .args .x) (s .args .p) _ _ (s .pre .1 .1 .1 .0) (s .pre .1 .1 .1 .1) (d .before .before .piece-left .ensures .0) (d .before .piece-right .ensures .0) (d .if1 .left) in
-    let m : 2 * d .before .before .piece-left .result + 1 < t = omega (arith, s .pre .0, H .left-below) in
+    let s = c .before .before .before .before in
+    let H = halves (in-hand t (c .before)) (c .if1 .left) in
+    let m : 2 * c .before .before .piece-left .result + 1 < t = omega (arith, s .pre .0, H .left-below) in
     (m, (s .pre .1 .0, (s .pre .1 .1 .0, H .left)))
 
 piece-duration-add-edge-duration : (t : ℕ) → piece-duration-lts.Need-add-edge-duration (piece-calls t) (piece-duration-at t) piece-duration.Post
 piece-duration-add-edge-duration t c =
     let d = c .before in
     let s = d .before .before .before .before in
-    let H = halves _ (s .pre .1 .1 .0) (s .args .e) (s .args .x) (s .args .p) _ _ (s .pre .1 .1 .1 .0) (s .pre .1 .1 .1 .1) (d .before .before .piece-left .ensures .0) (d .before .piece-right .ensures .0) (d .if1 .left) in
+    let H = halves (in-hand t (d .before)) (d .if1 .left) in
     omega (arith, H .right _ (c .edge-duration .ensures) .fits)
 
 piece-duration-edge-duration-requires-2 :
@@ -133,7 +146,7 @@ piece-duration-edge-duration-requires-2 :
 piece-duration-edge-duration-requires-2 t c κs =
     let d = c .before in
     let s = d .before .before .before .before in
-    let H = halves _ (s .pre .1 .1 .0) (s .args .e) (s .args .x) (s .args .p) _ _ (s .pre .1 .1 .1 .0) (s .pre .1 .1 .1 .1) (d .before .before .piece-left .ensures .0) (d .before .piece-right .ensures .0) (d .if1 .left) in
+    let H = halves (in-hand t (d .before)) (d .if1 .left) in
     let m : 2 * d .before .piece-right .result + 1 < t = omega (arith, s .pre .0, H .right-below) in
     (m, (s .pre .1 .0, (s .pre .1 .1 .0, H .right _ (c .edge-duration .ensures))))
 
@@ -141,14 +154,14 @@ piece-duration-add-result : (t : ℕ) → piece-duration-lts.Need-add-result (pi
 piece-duration-add-result t c =
     let d = c .before .before in
     let s = d .before .before .before .before in
-    let H = halves _ (s .pre .1 .1 .0) (s .args .e) (s .args .x) (s .args .p) _ _ (s .pre .1 .1 .1 .0) (s .pre .1 .1 .1 .1) (d .before .before .piece-left .ensures .0) (d .before .piece-right .ensures .0) (d .if1 .left) in
+    let H = halves (in-hand t (d .before)) (d .if1 .left) in
     omega (arith, H .sum _ _ (c .before .edge-duration .ensures) (c .edge-duration2 .ensures))
 
 piece-duration-returns-2 : (t : ℕ) → piece-duration-lts.Need-returns-2 (piece-calls t) (piece-duration-at t) piece-duration.Post
 piece-duration-returns-2 t c =
     let d = c .before .before in
     let s = d .before .before .before .before in
-    halves-arrive _ (s .pre .1 .1 .0) (s .args .e) (s .args .x) (s .args .p) _ _ (s .pre .1 .1 .1 .0) (s .pre .1 .1 .1 .1) (d .before .before .piece-left .ensures .0) (d .before .piece-right .ensures .0) (d .if1 .left) _ _ (c .before .edge-duration .ensures) (c .edge-duration2 .ensures)
+    halves-arrive (in-hand t (d .before)) (d .if1 .left) _ _ (c .before .edge-duration .ensures) (c .edge-duration2 .ensures)
 
 pub +edge-duration+piece-duration-spec : {M : Type 1} → statement M
 +edge-duration+piece-duration-spec =

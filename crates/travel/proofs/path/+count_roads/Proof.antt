@@ -1,7 +1,8 @@
 use Prim.Native.Nat.{ℕ, _<_}
 use native.Mathlib.Omega.{arith}
-use Rattle.travel.specs.Halves.{force-in}
-use Rattle.travel.specs.Unfolds.{the-road, the-halves, road-unfolds, halves-unfold, few-roads}
+use Rattle.volume.specs.Format.{volumeOf}
+use Rattle.travel.specs.Halves.{force-has, force-in, road-there, halves}
+use Rattle.travel.specs.Unfolds.{InForce, road-unfolds, halves-unfold, few-roads}
 use borrow.Fn.Kinds.{In}
 use borrow.Fn.PlainCycle.{Measures, is, falls, and}
 use Rattle.travel.proofs.path.count_roads.Reads as count-roads
@@ -39,6 +40,23 @@ calls t = (
   count-roads.Post,
 )
 
+-- the piece in force, once its left and right are read
+in-force : (t : ℕ) (c : count-roads-lts.After-piece-right (calls t) (count-roads-at t) count-roads.Post)
+    → InForce (volumeOf (c .before .before .before .before .args .v .now)) (c .before .before .before .before .args .e) (c .before .before .before .before .args .x)
+    (c .before .before .piece-in-force .result) (c .before .piece-left .result) (c .piece-right .result)
+in-force t c =
+    let s = c .before .before .before .before in
+    record {
+      hand = record {
+        sound = s .pre .1 .1 .0;
+        enters = s .pre .1 .1 .1;
+        has = force-has _ (s .pre .1 .1 .0) (s .args .e) (s .args .x) _ (s .pre .1 .1 .1 .there) (c .before .before .piece-in-force .ensures);
+        left = c .before .piece-left .ensures .0;
+        right = c .piece-right .ensures .0;
+      };
+      force = c .before .before .piece-in-force .ensures;
+    }
+
 count-roads-piece-in-force-requires : (t : ℕ) → count-roads-lts.Need-piece-in-force-requires (calls t) (count-roads-at t) count-roads.Post
 count-roads-piece-in-force-requires t c κs =
     let s = c .before in
@@ -56,36 +74,34 @@ count-roads-piece-right-requires t c κs =
 
 count-roads-road-duration-requires : (t : ℕ) → count-roads-lts.Need-road-duration-requires (calls t) (count-roads-at t) count-roads.Post
 count-roads-road-duration-requires t c κs =
-    let d = c in
-    let s = d .before .before .before .before .before in
-    (s .pre .1 .0, (s .pre .1 .1 .0, the-road _ (s .pre .1 .1 .0) (s .args .e) (s .args .x) _ _ _ (s .pre .1 .1 .1) (d .before .before .before .piece-in-force .ensures) (d .before .before .piece-left .ensures .0) (d .before .piece-right .ensures .0) (d .if1 .taken)))
+    let s = c .before .before .before .before .before in
+    (s .pre .1 .0, (s .pre .1 .1 .0, road-there (in-force t (c .before) .hand) (c .if1 .taken)))
 
 count-roads-returns : (t : ℕ) → count-roads-lts.Need-returns (calls t) (count-roads-at t) count-roads.Post
 count-roads-returns t c =
     let d = c .before in
     let s = d .before .before .before .before .before in
-    road-unfolds _ (s .pre .1 .1 .0) (s .args .e) (s .args .x) _ _ _ (s .pre .1 .1 .1) (d .before .before .before .piece-in-force .ensures) (d .before .before .piece-left .ensures .0) (d .before .piece-right .ensures .0) (d .if1 .taken) _ (c .road-duration .ensures)
+    road-unfolds (in-force t (d .before)) (d .if1 .taken) _ (c .road-duration .ensures)
 
 count-roads-count-roads-requires : (t : ℕ) → count-roads-lts.Need-count-roads-requires (calls t) (count-roads-at t) count-roads.Post
 count-roads-count-roads-requires t c κs =
-    let d = c in
-    let s = d .before .before .before .before .before in
-    let H = the-halves _ (s .pre .1 .1 .0) (s .args .e) (s .args .x) _ _ _ (s .pre .1 .1 .1) (d .before .before .before .piece-in-force .ensures) (d .before .before .piece-left .ensures .0) (d .before .piece-right .ensures .0) (d .if1 .left) in
-    let m : d .before .before .piece-left .result < t = omega (arith, s .pre .0, H .left-below) in
+    let s = c .before .before .before .before .before in
+    let H = halves (in-force t (c .before) .hand) (c .if1 .left) in
+    let m : c .before .before .piece-left .result < t = omega (arith, s .pre .0, H .left-below) in
     (m, (s .pre .1 .0, (s .pre .1 .1 .0, H .left)))
 
 count-roads-add-count-roads : (t : ℕ) → count-roads-lts.Need-add-count-roads (calls t) (count-roads-at t) count-roads.Post
 count-roads-add-count-roads t c =
     let d = c .before .before in
     let s = d .before .before .before .before .before in
-    let H = the-halves _ (s .pre .1 .1 .0) (s .args .e) (s .args .x) _ _ _ (s .pre .1 .1 .1) (d .before .before .before .piece-in-force .ensures) (d .before .before .piece-left .ensures .0) (d .before .piece-right .ensures .0) (d .if1 .left) in
+    let H = halves (in-force t (d .before) .hand) (d .if1 .left) in
     omega (arith, H .right _ (c .before .count-roads .ensures .duration) .fits)
 
 count-roads-count-roads-requires-2 : (t : ℕ) → count-roads-lts.Need-count-roads-requires-2 (calls t) (count-roads-at t) count-roads.Post
 count-roads-count-roads-requires-2 t c κs =
     let d = c .before .before in
     let s = d .before .before .before .before .before in
-    let H = the-halves _ (s .pre .1 .1 .0) (s .args .e) (s .args .x) _ _ _ (s .pre .1 .1 .1) (d .before .before .before .piece-in-force .ensures) (d .before .before .piece-left .ensures .0) (d .before .piece-right .ensures .0) (d .if1 .left) in
+    let H = halves (in-force t (d .before) .hand) (d .if1 .left) in
     let m : d .before .piece-right .result < t = omega (arith, s .pre .0, H .right-below) in
     (m, (s .pre .1 .0, (s .pre .1 .1 .0, H .right _ (c .before .count-roads .ensures .duration))))
 
@@ -95,7 +111,7 @@ count-roads-add-roads t c =
     let s = d .before .before .before .before .before in
     let a = c .before .before .before .before .count-roads in
     let b = c .before .before .count-roads2 in
-    let u = halves-unfold _ (s .pre .1 .1 .0) (s .args .e) (s .args .x) _ _ _ (s .pre .1 .1 .1) (d .before .before .before .piece-in-force .ensures) (d .before .before .piece-left .ensures .0) (d .before .piece-right .ensures .0) (d .if1 .left) _ (a .ensures) _ (b .ensures) in
+    let u = halves-unfold (in-force t (d .before)) (d .if1 .left) _ (a .ensures) _ (b .ensures) in
     omega (arith, few-roads _ (s .pre .1 .1 .0) (s .args .e) (s .args .x) _ (s .pre .1 .1 .1 .there) u)
 
 count-roads-add-duration : (t : ℕ) → count-roads-lts.Need-add-duration (calls t) (count-roads-at t) count-roads.Post
@@ -104,7 +120,7 @@ count-roads-add-duration t c =
     let s = d .before .before .before .before .before in
     let a = c .before .before .before .before .before .before .count-roads in
     let b = c .before .before .before .before .count-roads2 in
-    let H = the-halves _ (s .pre .1 .1 .0) (s .args .e) (s .args .x) _ _ _ (s .pre .1 .1 .1) (d .before .before .before .piece-in-force .ensures) (d .before .before .piece-left .ensures .0) (d .before .piece-right .ensures .0) (d .if1 .left) in
+    let H = halves (in-force t (d .before) .hand) (d .if1 .left) in
     omega (arith, H .sum _ _ (a .ensures .duration) (b .ensures .duration))
 
 count-roads-returns-2 : (t : ℕ) → count-roads-lts.Need-returns-2 (calls t) (count-roads-at t) count-roads.Post
@@ -113,7 +129,7 @@ count-roads-returns-2 t c =
     let s = d .before .before .before .before .before in
     let a = c .before .before .before .before .before .before .count-roads in
     let b = c .before .before .before .before .count-roads2 in
-    halves-unfold _ (s .pre .1 .1 .0) (s .args .e) (s .args .x) _ _ _ (s .pre .1 .1 .1) (d .before .before .before .piece-in-force .ensures) (d .before .before .piece-left .ensures .0) (d .before .piece-right .ensures .0) (d .if1 .left) _ (a .ensures) _ (b .ensures)
+    halves-unfold (in-force t (d .before)) (d .if1 .left) _ (a .ensures) _ (b .ensures)
 
 pub +count-roads-spec : {M : Type 1} → statement M
 +count-roads-spec = close μ-count-roads λ t. count-roads-lts.spec (calls t) (count-roads-at t)

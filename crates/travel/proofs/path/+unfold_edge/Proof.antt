@@ -6,8 +6,8 @@ use native.Mathlib.Omega.{arith}
 use borrow.Author.Needs.{needs}
 use Rattle.volume.specs.Format.{volumeOf}
 use Rattle.travel.specs.Network.{roadsOf}
-use Rattle.travel.specs.Halves.{force-in}
-use Rattle.travel.specs.Unfolds.{the-road, the-halves, one-road, road-unfolds, left-among, roads-halves, halves-unfold, few-roads}
+use Rattle.travel.specs.Halves.{force-has, force-in, road-there, halves}
+use Rattle.travel.specs.Unfolds.{InForce, one-road, road-unfolds, left-among, roads-halves, halves-unfold, few-roads}
 use Rattle.travel.specs.Written.{withRoads, one-written, count-in, room-after, two-written}
 use borrow.Fn.Kinds.{In}
 use borrow.Fn.PlainCycle.{Measures, is, falls, and}
@@ -46,6 +46,23 @@ calls t = (
   unfold-edge.Post,
 )
 
+-- the piece in force, once its left and right are read
+in-force : (t : ℕ) (c : unfold-edge-lts.After-piece-right (calls t) (unfold-edge-at t) unfold-edge.Post)
+    → InForce (volumeOf (c .before .before .before .before .before .args .v .now)) (c .before .before .before .before .before .args .e) (c .before .before .before .before .before .args .x)
+    (c .before .before .piece-in-force .result) (c .before .piece-left .result) (c .piece-right .result)
+in-force t c =
+    let s = c .before .before .before .before .before in
+    record {
+      hand = record {
+        sound = s .pre .1 .1 .0;
+        enters = s .pre .1 .1 .1 .0;
+        has = force-has _ (s .pre .1 .1 .0) (s .args .e) (s .args .x) _ (s .pre .1 .1 .1 .0 .there) (c .before .before .piece-in-force .ensures);
+        left = c .before .piece-left .ensures .0;
+        right = c .piece-right .ensures .0;
+      };
+      force = c .before .before .piece-in-force .ensures;
+    }
+
 unfold-edge-piece-in-force-requires : (t : ℕ) → unfold-edge-lts.Need-piece-in-force-requires (calls t) (unfold-edge-at t) unfold-edge.Post
 unfold-edge-piece-in-force-requires t c κs =
     let s = c .before .before in
@@ -66,16 +83,14 @@ unfold-edge-cast-path t c = search needs
 
 unfold-edge-slice-write-path : (t : ℕ) → unfold-edge-lts.Need-slice-write-path (calls t) (unfold-edge-at t) unfold-edge.Post
 unfold-edge-slice-write-path t c =
-    let d = c in
-    let s = d .before .before .before .before .before .before in
-    let k = ap length (one-road _ (s .pre .1 .1 .0) (s .args .e) (s .args .x) _ _ _ (s .pre .1 .1 .1 .0) (d .before .before .before .piece-in-force .ensures) (d .before .before .piece-left .ensures .0) (d .before .piece-right .ensures .0) (d .if1 .taken)) in
+    let s = c .before .before .before .before .before .before in
+    let k = ap length (one-road (in-force t (c .before)) (c .if1 .taken)) in
     omega (arith, s .pre .1 .1 .1 .1)
 
 unfold-edge-road-duration-requires : (t : ℕ) → unfold-edge-lts.Need-road-duration-requires (calls t) (unfold-edge-at t) unfold-edge.Post
 unfold-edge-road-duration-requires t c κs =
-    let d = c in
-    let s = d .before .before .before .before .before .before in
-    (s .pre .1 .0, (s .pre .1 .1 .0, the-road _ (s .pre .1 .1 .0) (s .args .e) (s .args .x) _ _ _ (s .pre .1 .1 .1 .0) (d .before .before .before .piece-in-force .ensures) (d .before .before .piece-left .ensures .0) (d .before .piece-right .ensures .0) (d .if1 .taken)))
+    let s = c .before .before .before .before .before .before in
+    (s .pre .1 .0, (s .pre .1 .1 .0, road-there (in-force t (c .before) .hand) (c .if1 .taken)))
 
 unfold-edge-same-length : (t : ℕ) → unfold-edge-lts.Need-same-length (calls t) (unfold-edge-at t) unfold-edge.Post
 unfold-edge-same-length t c = search needs
@@ -84,10 +99,10 @@ unfold-edge-returns : (t : ℕ) → unfold-edge-lts.Need-returns (calls t) (unfo
 unfold-edge-returns t c =
     let d = c .before in
     let s = d .before .before .before .before .before .before in
-    let one = one-road _ (s .pre .1 .1 .0) (s .args .e) (s .args .x) _ _ _ (s .pre .1 .1 .1 .0) (d .before .before .before .piece-in-force .ensures) (d .before .before .piece-left .ensures .0) (d .before .piece-right .ensures .0) (d .if1 .taken) in
+    let one = one-road (in-force t (d .before)) (d .if1 .taken) in
     let k = ap length one in
     let h : 0 < length (s .args .path .now) = omega (arith, s .pre .1 .1 .1 .1) in (
-      road-unfolds _ (s .pre .1 .1 .0) (s .args .e) (s .args .x) _ _ _ (s .pre .1 .1 .1 .0) (d .before .before .before .piece-in-force .ensures) (d .before .before .piece-left .ensures .0) (d .before .piece-right .ensures .0) (d .if1 .taken) _ (c .road-duration .ensures),
+      road-unfolds (in-force t (d .before)) (d .if1 .taken) _ (c .road-duration .ensures),
       one-written (s .args .path .now) _ h ∙ ap (λ (ks : List ℕ). withRoads ks (s .args .path .now)) (sym one),
     )
 
@@ -95,23 +110,23 @@ unfold-edge-unfold-edge-requires : (t : ℕ) → unfold-edge-lts.Need-unfold-edg
 unfold-edge-unfold-edge-requires t c κs =
     let d = c .before in
     let s = d .before .before .before .before .before .before in
-    let H = the-halves _ (s .pre .1 .1 .0) (s .args .e) (s .args .x) _ _ _ (s .pre .1 .1 .1 .0) (d .before .before .before .piece-in-force .ensures) (d .before .before .piece-left .ensures .0) (d .before .piece-right .ensures .0) (d .if1 .left) in
+    let H = halves (in-force t (d .before) .hand) (d .if1 .left) in
     let m : d .before .before .piece-left .result < t = omega (arith, s .pre .0, H .left-below) in
-    let room = left-among _ (s .pre .1 .1 .0) (s .args .e) (s .args .x) _ _ _ (s .pre .1 .1 .1 .0) (d .before .before .before .piece-in-force .ensures) (d .before .before .piece-left .ensures .0) (d .before .piece-right .ensures .0) (d .if1 .left) in
+    let room = left-among (in-force t (d .before)) (d .if1 .left) in
     (m, (s .pre .1 .0, (s .pre .1 .1 .0, (H .left, omega (arith, s .pre .1 .1 .1 .1)))))
 
 unfold-edge-add-unfold-edge : (t : ℕ) → unfold-edge-lts.Need-add-unfold-edge (calls t) (unfold-edge-at t) unfold-edge.Post
 unfold-edge-add-unfold-edge t c =
     let d = c .before .before .before .before .before in
     let s = d .before .before .before .before .before .before in
-    let H = the-halves _ (s .pre .1 .1 .0) (s .args .e) (s .args .x) _ _ _ (s .pre .1 .1 .1 .0) (d .before .before .before .piece-in-force .ensures) (d .before .before .piece-left .ensures .0) (d .before .piece-right .ensures .0) (d .if1 .left) in
+    let H = halves (in-force t (d .before) .hand) (d .if1 .left) in
     omega (arith, H .right _ (c .before .before .before .unfold-edge .ensures .0 .duration) .fits)
 
 unfold-edge-mul-unfold-edge : (t : ℕ) → unfold-edge-lts.Need-mul-unfold-edge (calls t) (unfold-edge-at t) unfold-edge.Post
 unfold-edge-mul-unfold-edge t c =
     let d = c .before .before .before .before .before in
     let s = d .before .before .before .before .before .before in
-    let H = the-halves _ (s .pre .1 .1 .0) (s .args .e) (s .args .x) _ _ _ (s .pre .1 .1 .1 .0) (d .before .before .before .piece-in-force .ensures) (d .before .before .piece-left .ensures .0) (d .before .piece-right .ensures .0) (d .if1 .left) in
+    let H = halves (in-force t (d .before) .hand) (d .if1 .left) in
     let a = c .before .before .before .unfold-edge in
     omega (arith, few-roads _ (s .pre .1 .1 .0) (d .before .before .piece-left .result) (s .args .x) _ (H .left .there) (a .ensures .0))
 
@@ -120,7 +135,8 @@ unfold-edge-sub-unfold-edge t c =
     let d = c .before .before .before .before .before in
     let s = d .before .before .before .before .before .before in
     let a = c .before .before .before .unfold-edge in
-    let n = count-in (roadsOf (volumeOf (s .args .v .now)) (d .before .before .piece-left .result) (s .args .x)) [] (s .args .path .now) _ (a .result .roads) (a .ensures .0 .roads) (a .ensures .1) in
+    let ks = roadsOf (volumeOf (s .args .v .now)) (d .before .before .piece-left .result) (s .args .x) in
+    let n = count-in ks [] (s .args .path .now) _ (a .result .roads) (a .ensures .0 .roads) (a .ensures .1) in
     omega arith
 
 unfold-edge-part-unfold-edge-start : (t : ℕ) → unfold-edge-lts.Need-part-unfold-edge-start (calls t) (unfold-edge-at t) unfold-edge.Post
@@ -128,7 +144,8 @@ unfold-edge-part-unfold-edge-start t c =
     let d = c .before .before .before .before .before in
     let s = d .before .before .before .before .before .before in
     let a = c .before .before .before .unfold-edge in
-    let n = count-in (roadsOf (volumeOf (s .args .v .now)) (d .before .before .piece-left .result) (s .args .x)) [] (s .args .path .now) _ (a .result .roads) (a .ensures .0 .roads) (a .ensures .1) in
+    let ks = roadsOf (volumeOf (s .args .v .now)) (d .before .before .piece-left .result) (s .args .x) in
+    let n = count-in ks [] (s .args .path .now) _ (a .result .roads) (a .ensures .0 .roads) (a .ensures .1) in
     omega arith
 
 unfold-edge-part-unfold-edge-end : (t : ℕ) → unfold-edge-lts.Need-part-unfold-edge-end (calls t) (unfold-edge-at t) unfold-edge.Post
@@ -139,10 +156,14 @@ unfold-edge-unfold-edge-requires-2 t c κs =
     let d = c .before .before .before .before .before .before in
     let s = d .before .before .before .before .before .before in
     let a = c .before .before .before .before .unfold-edge in
-    let H = the-halves _ (s .pre .1 .1 .0) (s .args .e) (s .args .x) _ _ _ (s .pre .1 .1 .1 .0) (d .before .before .before .piece-in-force .ensures) (d .before .before .piece-left .ensures .0) (d .before .piece-right .ensures .0) (d .if1 .left) in
+    let H = halves (in-force t (d .before) .hand) (d .if1 .left) in
     let m : d .before .piece-right .result < t = omega (arith, s .pre .0, H .right-below) in
-    let both = ap length (roads-halves _ (s .pre .1 .1 .0) (s .args .e) (s .args .x) _ _ _ (s .pre .1 .1 .1 .0) (d .before .before .before .piece-in-force .ensures) (d .before .before .piece-left .ensures .0) (d .before .piece-right .ensures .0) (d .if1 .left) _ (a .ensures .0)) in
-    let room = room-after (roadsOf (volumeOf (s .args .v .now)) (d .before .before .piece-left .result) (s .args .x)) (roadsOf (volumeOf (s .args .v .now)) (d .before .piece-right .result) (s .args .x + a .result .duration)) (s .args .path .now) _ (a .result .roads) (a .ensures .0 .roads) (a .ensures .1) (omega (arith, s .pre .1 .1 .1 .1)) in
+    let both = ap length (roads-halves (in-force t (d .before)) (d .if1 .left) _ (a .ensures .0)) in
+    let ks = roadsOf (volumeOf (s .args .v .now)) (d .before .before .piece-left .result) (s .args .x) in
+    let js = roadsOf (volumeOf (s .args .v .now)) (d .before .piece-right .result) (s .args .x + a .result .duration) in
+    let room =
+    room-after ks js (s .args .path .now) _ (a .result .roads) (a .ensures .0 .roads) (a .ensures .1) (omega (arith, s .pre .1 .1 .1 .1))
+    in
     (m, (s .pre .1 .0, (s .pre .1 .1 .0, (H .right _ (a .ensures .0 .duration), room))))
 
 unfold-edge-add-roads : (t : ℕ) → unfold-edge-lts.Need-add-roads (calls t) (unfold-edge-at t) unfold-edge.Post
@@ -151,7 +172,7 @@ unfold-edge-add-roads t c =
     let s = d .before .before .before .before .before .before in
     let a = c .before .before .before .before .before .before .before .before .unfold-edge in
     let b = c .before .before .before .unfold-edge2 in
-    let u = halves-unfold _ (s .pre .1 .1 .0) (s .args .e) (s .args .x) _ _ _ (s .pre .1 .1 .1 .0) (d .before .before .before .piece-in-force .ensures) (d .before .before .piece-left .ensures .0) (d .before .piece-right .ensures .0) (d .if1 .left) _ (a .ensures .0) _ (b .ensures .0) in
+    let u = halves-unfold (in-force t (d .before)) (d .if1 .left) _ (a .ensures .0) _ (b .ensures .0) in
     omega (arith, few-roads _ (s .pre .1 .1 .0) (s .args .e) (s .args .x) _ (s .pre .1 .1 .1 .0 .there) u)
 
 unfold-edge-add-duration : (t : ℕ) → unfold-edge-lts.Need-add-duration (calls t) (unfold-edge-at t) unfold-edge.Post
@@ -160,7 +181,7 @@ unfold-edge-add-duration t c =
     let s = d .before .before .before .before .before .before in
     let a = c .before .before .before .before .before .before .before .before .before .before .unfold-edge in
     let b = c .before .before .before .before .before .unfold-edge2 in
-    let H = the-halves _ (s .pre .1 .1 .0) (s .args .e) (s .args .x) _ _ _ (s .pre .1 .1 .1 .0) (d .before .before .before .piece-in-force .ensures) (d .before .before .piece-left .ensures .0) (d .before .piece-right .ensures .0) (d .if1 .left) in
+    let H = halves (in-force t (d .before) .hand) (d .if1 .left) in
     omega (arith, H .sum _ _ (a .ensures .0 .duration) (b .ensures .0 .duration))
 
 unfold-edge-same-length-2 : (t : ℕ) → unfold-edge-lts.Need-same-length-2 (calls t) (unfold-edge-at t) unfold-edge.Post
@@ -172,9 +193,12 @@ unfold-edge-returns-2 t c =
     let s = d .before .before .before .before .before .before in
     let a = c .before .before .before .before .before .before .before .before .before .before .unfold-edge in
     let b = c .before .before .before .before .before .unfold-edge2 in
-    let both = roads-halves _ (s .pre .1 .1 .0) (s .args .e) (s .args .x) _ _ _ (s .pre .1 .1 .1 .0) (d .before .before .before .piece-in-force .ensures) (d .before .before .piece-left .ensures .0) (d .before .piece-right .ensures .0) (d .if1 .left) _ (a .ensures .0) in (
-      halves-unfold _ (s .pre .1 .1 .0) (s .args .e) (s .args .x) _ _ _ (s .pre .1 .1 .1 .0) (d .before .before .before .piece-in-force .ensures) (d .before .before .piece-left .ensures .0) (d .before .piece-right .ensures .0) (d .if1 .left) _ (a .ensures .0) _ (b .ensures .0),
-      two-written (roadsOf (volumeOf (s .args .v .now)) (d .before .before .piece-left .result) (s .args .x)) (roadsOf (volumeOf (s .args .v .now)) (d .before .piece-right .result) (s .args .x + a .result .duration)) (s .args .path .now) _ (a .result .roads) (a .ensures .0 .roads) (a .ensures .1) _ (b .ensures .1) ∙ ap (λ (ks : List ℕ). withRoads ks (s .args .path .now)) (sym both),
+    let ks = roadsOf (volumeOf (s .args .v .now)) (d .before .before .piece-left .result) (s .args .x) in
+    let js = roadsOf (volumeOf (s .args .v .now)) (d .before .piece-right .result) (s .args .x + a .result .duration) in
+    let both = roads-halves (in-force t (d .before)) (d .if1 .left) _ (a .ensures .0) in (
+      halves-unfold (in-force t (d .before)) (d .if1 .left) _ (a .ensures .0) _ (b .ensures .0),
+      two-written ks js (s .args .path .now) _ (a .result .roads) (a .ensures .0 .roads) (a .ensures .1) _ (b .ensures .1)
+          ∙ ap (λ (l : List ℕ). withRoads l (s .args .path .now)) (sym both),
     )
 
 pub +unfold-edge-spec : {M : Type 1} → statement M

@@ -44,7 +44,8 @@ line-requires : tie.Need-line-requires
 line-requires c κs =
     let d = c .before .before .before in
     let s = d .before .before .before in (
-      next-ends _ (s .args .first) (s .args .n) (s .args .i) (s .args .x) _ _ _ _ (s .pre .1 .0) (s .pre .1 .1) (d .before .point-second .ensures .0) (d .point-duration .ensures .0)
+      next-ends _ (s .args .first) (s .args .n) (s .args .i) (s .args .x) _ _ _ _ (s .pre .1 .0) (s .pre .1 .1)
+          (d .before .point-second .ensures .0) (d .point-duration .ensures .0)
           (c .before .before .if1 .taken) (c .before .point-second2 .ensures .0) (c .point-duration2 .ensures .0),
       omega arith,
     )
@@ -53,7 +54,8 @@ returns : tie.Need-returns
 returns c =
     let d = c .before .before .before .before in
     let s = d .before .before .before in
-    next-is _ (s .args .first) (s .args .n) (s .args .i) (s .args .x) _ _ _ _ (s .pre .1 .0) (s .pre .1 .1) (d .before .point-second .ensures .0) (d .point-duration .ensures .0)
+    next-is _ (s .args .first) (s .args .n) (s .args .i) (s .args .x) _ _ _ _ (s .pre .1 .0) (s .pre .1 .1)
+    (d .before .point-second .ensures .0) (d .point-duration .ensures .0)
     (c .before .before .before .if1 .taken) (c .before .before .point-second2 .ensures .0) (c .before .point-duration2 .ensures .0)
     _ (c .line .ensures)
 
@@ -70,8 +72,10 @@ line-requires-2 : tie.Need-line-requires-2
 line-requires-2 c κs =
     let d = c .before .before .before in
     let s = d .before .before .before in (
-      over-ends _ (s .args .first) (s .args .n) (s .args .i) (s .args .x) _ _ _ _ (s .pre .1 .0) (s .pre .1 .1) (d .before .point-second .ensures .0) (d .point-duration .ensures .0)
-          (c .before .before .if1 .left) (ap₂ _+_ (c .before .point-second3 .ensures .0) (sym (period-is (s .args .v .now)))) (c .point-duration3 .ensures .0),
+      over-ends _ (s .args .first) (s .args .n) (s .args .i) (s .args .x) _ _ _ _ (s .pre .1 .0) (s .pre .1 .1)
+          (d .before .point-second .ensures .0) (d .point-duration .ensures .0)
+          (c .before .before .if1 .left) (ap₂ _+_ (c .before .point-second3 .ensures .0) (sym (period-is (s .args .v .now))))
+          (c .point-duration3 .ensures .0),
       omega arith,
     )
 
@@ -79,8 +83,10 @@ returns-2 : tie.Need-returns-2
 returns-2 c =
     let d = c .before .before .before .before in
     let s = d .before .before .before in
-    over-is _ (s .args .first) (s .args .n) (s .args .i) (s .args .x) _ _ _ _ (s .pre .1 .0) (s .pre .1 .1) (d .before .point-second .ensures .0) (d .point-duration .ensures .0)
-    (c .before .before .before .if1 .left) (ap₂ _+_ (c .before .before .point-second3 .ensures .0) (sym (period-is (s .args .v .now)))) (c .before .point-duration3 .ensures .0)
+    over-is _ (s .args .first) (s .args .n) (s .args .i) (s .args .x) _ _ _ _ (s .pre .1 .0) (s .pre .1 .1)
+    (d .before .point-second .ensures .0) (d .point-duration .ensures .0)
+    (c .before .before .before .if1 .left) (ap₂ _+_ (c .before .before .point-second3 .ensures .0) (sym (period-is (s .args .v .now))))
+    (c .before .point-duration3 .ensures .0)
     _ (c .line2 .ensures)
 
 pub from-point-spec : {M : Type 1} → statement M

@@ -1,0 +1,39 @@
+-- What the two travel times that are sold answer: the duration, or a refusal 1 to 7 with its place.
+use Prim.Native.Nat.{ℕ, _-_}
+use mathlib.Core.Path.{_≡_, refl, ap, sym, _∙_}
+use mathlib.Core.Bool.{true, false}
+use mathlib.Core.List.{List}
+use lib.Dec.{ltb}
+use borrow.Author.Tests.{lt-ltb, le-ltb}
+use Rattle.block.specs.Choose.{choose}
+use Rattle.volume.specs.Format.{volumeOf}
+use Rattle.volume.specs.Open.{openOf}
+use Rattle.volume.specs.declared.Opening.{Opening}
+use Rattle.volume.specs.declared.Opening.the-variants.{Opened, Refused as NotOpened}
+use Rattle.travel.specs.Network.{roadTime, arrival}
+use Rattle.travel.specs.declared.Timing.{Timing}
+use Rattle.travel.specs.declared.Timing.the-variants.{Lasts, Refused}
+
+-- a volume that does not open is refused as opening refuses it; one that opens is asked
+abbrev pub opening : Opening → Timing → Timing
+opening (Opened c) asked = asked
+opening (NotOpened number place) asked = Refused number place
+
+-- 7, place 0: a number that is not below the count; else how long it lasts
+abbrev pub timed : ℕ → ℕ → ℕ → Timing
+timed count number lasts = choose (ltb number count) (Lasts lasts) (Refused 7 0)
+
+-- the duration of a road at a departure
+unfoldable pub roadTimeOf : List ℕ → ℕ → ℕ → Timing
+roadTimeOf v road departure =
+    opening (openOf v) (timed (volumeOf v .roads) road (roadTime (volumeOf v) road departure))
+
+-- the duration of an edge at a departure
+unfoldable pub edgeTimeOf : List ℕ → ℕ → ℕ → Timing
+edgeTimeOf v edge departure =
+    opening (openOf v) (timed (volumeOf v .edges) edge (arrival (volumeOf v) edge departure - departure))
+
+-- the document's number of each answer, 0 or the refusal's, and its value, the duration or the place
+abbrev pub paper : Timing → ℕ × ℕ
+paper (Lasts d) = (0, d)
+paper (Refused number place) = (number, place)

@@ -1,0 +1,199 @@
+/* The benchmark: library and twin side by side in one run, round by round in
+   turn, and the medians of the rounds with their ratios, as a table. Where a
+   function opens the volume first, the time of opening it is also measured, and
+   taken off on both sides: what is left is the function after opening. */
+#include "net.h"
+
+#include "breezeflint.h"
+
+#include <stdio.h>
+#include <stdlib.h>
+#include <time.h>
+
+enum { LIBRARY, TWIN, SIDES, MOST_ROUNDS = 31, QUESTIONS = 64 };
+
+struct question {
+    uint32_t from, to, departure;
+};
+
+static struct net net;
+static uint8_t volume[VOLUME_ROOM];
+static size_t length;
+static struct question question[QUESTIONS];
+static uint32_t number;
+static uint64_t out[OUT_PLACES], work[8 * MAX_JUNCTIONS];
+static uint32_t path[65536];
+static uint64_t sum; /* of all answers: the two sides must agree on it */
+
+/* ---- what is measured; each gives its answer */
+
+static uint64_t opening(int side) {
+    return side == LIBRARY ? bf_open(volume, length, out, OUT_PLACES)
+                           : twin_open(volume, length, out, OUT_PLACES);
+}
+
+static uint64_t road_time(int side) {
+    uint32_t x = 43210;
+    uint32_t refused = side == LIBRARY ? bf_road_time(volume, length, number, x, out, OUT_PLACES)
+                                       : twin_road_time(volume, length, number, x, out, OUT_PLACES);
+    return refused ? UINT64_MAX : out[0];
+}
+
+static uint64_t edge_time(int side) {
+    uint32_t x = 43210;
+    uint32_t refused = side == LIBRARY ? bf_edge_time(volume, length, number, x, out, OUT_PLACES)
+                                       : twin_edge_time(volume, length, number, x, out, OUT_PLACES);
+    return refused ? UINT64_MAX : out[0];
+}
+
+static uint64_t check(int side) {
+    uint32_t refused = side == LIBRARY ? bf_check(volume, length, out, OUT_PLACES)
+                                       : twin_check(volume, length, out, OUT_PLACES);
+    return refused ? UINT64_MAX : out[0];
+}
+
+static struct question next_question(void) { return question[number++ % QUESTIONS]; }
+
+static uint64_t search(int side) {
+    struct question q = next_question();
+    uint32_t refused = side == LIBRARY
+                           ? bf_search(volume, length, q.from, q.to, q.departure, UINT32_MAX, work,
+                                       8 * MAX_JUNCTIONS, path, 65536, out, OUT_PLACES)
+                           : twin_search(volume, length, q.from, q.to, q.departure, UINT32_MAX, work,
+                                         8 * MAX_JUNCTIONS, path, 65536, out, OUT_PLACES);
+    return refused ? UINT64_MAX : out[1];
+}
+
+/* The bare roads have one program: both sides of its race are the same. */
+static uint64_t bare(int side) {
+    (void)side;
+    struct question q = next_question();
+    return bare_arrival(&net, q.from, q.to, q.departure);
+}
+
+/* ---- the race */
+
+static double seconds(void) {
+    struct timespec now;
+    clock_gettime(CLOCK_MONOTONIC, &now);
+    return (double)now.tv_sec + 1e-9 * (double)now.tv_nsec;
+}
+
+static int rising(const void *one, const void *other) {
+    double a = *(const double *)one, b = *(const double *)other;
+    return (a > b) - (a < b);
+}
+
+struct times {
+    double side[SIDES]; /* seconds for one call */
+};
+
+/* The medians of so many rounds of so many calls. */
+static struct times race(uint64_t (*job)(int side), uint32_t rounds, uint32_t calls) {
+    static double round[SIDES][MOST_ROUNDS];
+    uint64_t answers[SIDES] = {0, 0};
+    struct times median;
+    uint32_t start = number;
+    for (uint32_t i = 0; i < rounds; i++) {
+        for (int side = 0; side < SIDES; side++) {
+            number = start;
+            double began = seconds();
+            for (uint32_t k = 0; k < calls; k++) answers[side] += job(side);
+            round[side][i] = (seconds() - began) / calls;
+        }
+    }
+    if (answers[LIBRARY] != answers[TWIN]) {
+        printf("the answers differ: run host/test\n");
+        exit(1);
+    }
+    for (int side = 0; side < SIDES; side++) {
+        qsort(round[side], rounds, sizeof(double), rising);
+        median.side[side] = round[side][rounds / 2];
+    }
+    number = start;
+    sum += answers[TWIN];
+    return median;
+}
+
+static struct times without(struct times whole, struct times part) {
+    return (struct times){{whole.side[0] - part.side[0], whole.side[1] - part.side[1]}};
+}
+
+static void print_row(const char *what, uint32_t n, struct times t) {
+    const char *unit = t.side[TWIN] > 0.1 ? "s" : t.side[TWIN] > 1e-4 ? "ms" : "us";
+    double scale = t.side[TWIN] > 0.1 ? 1 : t.side[TWIN] > 1e-4 ? 1e3 : 1e6;
+    printf("| %s | %u | %lu | %.3f %s | %.3f %s | %.2f |\n", what, n, length / BLOCK_BYTES,
+           scale * t.side[LIBRARY], unit, scale * t.side[TWIN], unit, t.side[LIBRARY] / t.side[TWIN]);
+    fflush(stdout);
+}
+
+/* ---- the volumes */
+
+static void measure_limits(struct dice *d) {
+    gen_limits(&net, d);
+    length = net_write(&net, volume);
+    print_row("opening, all limits", net.n, race(opening, 21, 4));
+}
+
+/* One road of many points in a volume of one block: opening is short there. */
+static void measure_road(void) {
+    net_start(&net, 2);
+    net_add_road(&net, 0, 1);
+    for (uint32_t i = 0; i < 50; i++) net_add_point(&net, 1700 * i, 100 + 37 * i % 90);
+    length = net_write(&net, volume);
+    number = 0;
+    struct times open = race(opening, 31, 20000), whole = race(road_time, 31, 20000);
+    print_row("a road's time, with opening", net.n, whole);
+    print_row("a road's time, after opening", net.n, without(whole, open));
+}
+
+static void measure_edge(struct dice *d) {
+    gen_ladder(&net, d, 14);
+    length = net_write(&net, volume);
+    number = net.e - 1;
+    struct times open = race(opening, 31, 200), whole = race(edge_time, 31, 100);
+    print_row("an edge's time, span 4,096, with opening", net.n, whole);
+    print_row("an edge's time, span 4,096, after opening", net.n, without(whole, open));
+}
+
+static int make_map(struct dice *d, uint32_t width, uint32_t height) {
+    gen_grid(&net, d, width, height, 30);
+    if (!net_build_full(&net)) {
+        printf("a map of %u by %u does not fit the format\n", width, height);
+        return 0;
+    }
+    length = net_write(&net, volume);
+    for (uint32_t i = 0; i < QUESTIONS; i++)
+        question[i] = (struct question){below(d, net.n), below(d, net.n), below(d, DAY)};
+    return 1;
+}
+
+static void measure_search(struct dice *d, uint32_t width, uint32_t height) {
+    if (!make_map(d, width, height)) exit(1);
+    number = 0;
+    struct times open = race(opening, 31, QUESTIONS), whole = race(search, 31, QUESTIONS);
+    struct times roads = race(bare, 11, QUESTIONS), after = without(whole, open);
+    print_row("a search, with opening", net.n, whole);
+    print_row("a search, after opening", net.n, after);
+    print_row("a search, after opening; for the twin: the search over the bare roads", net.n,
+              (struct times){{after.side[LIBRARY], roads.side[TWIN]}});
+}
+
+static void measure_check(struct dice *d, uint32_t width, uint32_t height, uint32_t rounds) {
+    if (!make_map(d, width, height)) exit(1);
+    print_row("the full check; for the twin: at every second", net.n, race(check, rounds, 1));
+}
+
+int main(void) {
+    struct dice dice = {7};
+    printf("| measured | N | blocks | library | twin | ratio |\n|---|---|---|---|---|---|\n");
+    measure_limits(&dice);
+    measure_road();
+    measure_edge(&dice);
+    measure_search(&dice, 10, 10);
+    measure_search(&dice, 15, 20);
+    measure_search(&dice, 32, 32);
+    measure_check(&dice, 5, 5, 3);
+    measure_check(&dice, 5, 10, 3);
+    return sum == 0;
+}
