@@ -48,8 +48,8 @@ uint32_t bf_edge_time(const uint8_t *v, size_t vn, uint32_t edge, uint32_t depar
                       size_t outn);
 
 /* out[0], the kind: 0 full, 1 road missing, 2 road late, 3 pair missing, 4 pair
-   late. For a fault also out[1], the road or the left edge; out[2], the right
-   edge, or 0 for a road; out[3], the second. Refusals 1 to 6. */
+   late. out[1], the road or the left edge; out[2], the right edge, or 0 for a
+   road; out[3], the second. Full has 0 in all four. Refusals 1 to 6. */
 uint32_t bf_check(const uint8_t *v, size_t vn, uint64_t *out, size_t outn);
 
 /* out[0], the kind: 0 closed, then arrival, used, roads; 1 no way, then used;

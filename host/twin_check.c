@@ -71,7 +71,6 @@ uint32_t twin_check(const uint8_t *v, size_t vn, uint64_t *out, size_t outn) {
     }
     struct fault found = first_fault(&volume);
     out[0] = found.kind;
-    if (found.kind == FULL) return 0;
     out[1] = found.one;
     out[2] = found.other;
     out[3] = found.second;

@@ -3,6 +3,8 @@ pub mod Rules
 pub mod Open
 pub mod Sound
 pub mod Passes
-pub mod Opens
+pub mod RoadSteps
+pub mod EdgeSteps
+pub mod OpenSteps
 pub mod Opened
 pub mod Index

@@ -18,7 +18,7 @@ use Rattle.volume.specs.Rules.{longest, mostSpan, empty, endsFit, begins
 use Rattle.volume.specs.Sound.{Points, SoundRoad, RoadPiece, PairPiece, SoundEdge, Sound}
 use Rattle.volume.specs.Passes.{ends-fact, placed-fact}
 use Rattle.volume.specs.Open.{recordsOf, openOf}
-use Rattle.volume.specs.Opens.{head-few, counted-of, laid-of}
+use Rattle.volume.specs.OpenSteps.{head-few, counted-of, laid-of}
 use Rattle.volume.specs.declared.tables.Counts.{Counts}
 use Rattle.volume.specs.declared.Opening.the-variants.{Opened, Refused}
 

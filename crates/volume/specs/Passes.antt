@@ -1,23 +1,19 @@
--- What the passes over the roads and over the edges find, and what each step of a pass learns, over plain numbers.
-use Prim.Native.Nat.{ℕ, _+_, _-_, _^_, _≤_, _<_, max}
-use mathlib.Core.Path.{_≡_, refl, sym, _∙_, ap, ap₂}
+-- A pass over all roads or all edges: what it finds, how it ends, and what ends and places that fit say. What each step of a pass
+-- learns is in RoadSteps and EdgeSteps.
+use Prim.Native.Nat.{ℕ, _+_, _-_, _≤_, _<_}
+use mathlib.Core.Path.{_≡_, sym, _∙_, ap}
 use mathlib.Core.Logic.{_≢_}
 use mathlib.Core.Bool.{Bool, true, false, not}
 use native.Mathlib.Omega.{arith}
 use native.Mathlib.Numerals.{add-one}
-use native.Mathlib.Decide.{ℕ-discrete, decLt}
 use lib.Dec.{eqb, leb, ltb}
-use borrow.Author.Tests.{eq-eqb, ne-eqb, eqb-true, leb-true, lt-ltb, ltb-true, eqb-false, not-true}
+use borrow.Author.Tests.{eq-eqb, ne-eqb, eqb-true, leb-true, ltb-true, eqb-false, not-true}
 use Rattle.block.specs.Choose.{choose, choose-yes, choose-no, both, both-yes, both-no, both-left, both-right}
-use Rattle.block.specs.First.{firstNot, Passed, first-stop, first-end, allBelow, all-fails, all-stop, all-end, below-all}
-use Rattle.volume.specs.Format.{Volume, day}
-use Rattle.volume.specs.Rules.{endsFit, placed, begins, pointFits, nextSecond, nextDuration, pointRule, roadRule, allObey, edgeRule, spanRule, mostSpan, pieceFits, pieceSpan, pieceRule, greatestSpan, newEnds, sameEnds, startFits, start, empty, roadJoins, pairJoins}
-use Rattle.volume.specs.Index.{nextFrom, next-high, next-begins, next-skips}
-use Rattle.volume.specs.declared.edges.Fit.{Fit}
-use Rattle.volume.specs.declared.edges.Fit.the-variants.{Span, Fault as FitFault}
+use Rattle.block.specs.First.{firstNot, Passed, first-stop, first-end, all-stop, all-end}
+use Rattle.volume.specs.Format.{Volume}
+use Rattle.volume.specs.Rules.{endsFit, placed, begins, roadRule, allObey, edgeRule}
 use Rattle.volume.specs.declared.roads.Pass.{Pass}
 use Rattle.volume.specs.declared.roads.Pass.the-variants.{Fine, Fault}
-use Rattle.volume.specs.declared.roads.Point.{Point}
 
 -- a pass over n records: each obeys and no part is left over, or the first record at fault
 unfoldable pub passOver : (ℕ → Bool) → (ℕ → ℕ) → (ℕ → ℕ) → ℕ → ℕ → Pass
@@ -28,44 +24,6 @@ roadsPass vol = passOver (roadRule vol) (vol .road-first) (vol .road-points) (vo
 
 abbrev pub edgesPass : Volume → Pass
 edgesPass vol = passOver (edgeRule vol) (vol .edge-first) (vol .edge-pieces) (vol .edges) (vol .pieces)
-
--- the span of piece p of edge e, where it fits
-abbrev pub pieceFit : Volume → ℕ → ℕ → Fit
-pieceFit vol e p = choose (pieceFits vol e p) (Span (pieceSpan vol p)) FitFault
-
--- the greatest span of the pieces of edge e, where they all obey
-abbrev pub piecesFit : Volume → ℕ → Fit
-piecesFit vol e =
-    choose (allBelow (vol .edge-pieces e) (pieceRule vol e)) (Span (greatestSpan vol (vol .edge-first e) (vol .edge-pieces e))) FitFault
-
--- q is point i
-pub record IsPoint (vol : Volume) (i : ℕ) (q : Point) : Type 0 where
-  pub second : q .second ≡ vol .point-second i
-  pub duration : q .duration ≡ vol .point-duration i
-  pub second-fits : q .second < 2 ^ 32
-  pub duration-fits : q .duration < 2 ^ 32
-
--- q is the point after point i of the n from `first` on
-pub record IsNext (vol : Volume) (first n i : ℕ) (q : Point) : Type 0 where
-  pub second : q .second ≡ nextSecond vol first n i
-  pub duration : q .duration ≡ nextDuration vol first n i
-  pub second-fits : q .second < 2 ^ 33
-  pub duration-fits : q .duration < 2 ^ 32
-
--- what the pass over a road's points asks of one
-pub point-rule : (vol : Volume) (first n i t f : ℕ) (q : Point) → vol .period ≡ day → t ≡ vol .point-second (first + i)
-    → f ≡ vol .point-duration (first + i) → IsNext vol first n i q
-    → pointRule vol first n i ≡ pointFits day t f (q .second) (q .duration)
-unfolding pointRule
-point-rule vol first n i t f q p e g h = let a = h .second in let b = h .duration in (cc)
-
--- what the pass asks of a road, from the words that it reads
-pub road-rule : (vol : Volume) (k from to first n begin : ℕ) → from ≡ vol .road-from k → to ≡ vol .road-to k → first ≡ vol .road-first k
-    → n ≡ vol .road-points k → begin ≡ begins (vol .road-first) (vol .road-points) k
-    → roadRule vol k
-    ≡ both (endsFit (vol .junctions) from to) (both (placed begin (vol .points) first n) (allBelow n (pointRule vol first n)))
-unfolding roadRule
-road-rule vol k from to first n begin a b d e g = (cc)
 
 -- ends that fit
 pub record Ends (junctions from to : ℕ) : Type 0 where
@@ -127,154 +85,3 @@ module _ (rule : ℕ → Bool) (first number : ℕ → ℕ) (n total k : ℕ) wh
     unfolding passOver allObey
     pass-fine e =
         choose-yes _ _ (both-yes _ (all-end rule n k le ge h) ∙ eq-eqb (begins first number n) total (sym last-is ∙ e))
-
--- the walk over earlier edges with the same start meets one with the same end, or none
-
-pub new-found : (vol : Volume) (e d from to : ℕ) → from ≡ vol .edge-from e → to ≡ vol .edge-to e → d < e → vol .edge-from d ≡ from
-    → vol .edge-to d ≡ to → newEnds vol e ≡ false
-unfolding newEnds sameEnds
-new-found vol e d from to a b lt f t =
-    all-fails e (λ d. not (sameEnds vol e d)) d lt
-    (ap not (both-yes _ (eq-eqb _ _ (f ∙ a)) ∙ eq-eqb _ _ (t ∙ b)))
-
-pub new-none : (vol : Volume) (e from to : ℕ) → from ≡ vol .edge-from e → to ≡ vol .edge-to e
-    → ((d : ℕ) → d < e → vol .edge-from d ≡ from → vol .edge-to d ≢ to) → newEnds vol e ≡ true
-unfolding newEnds sameEnds
-new-none vol e from to a b h = below-all e (λ d. not (sameEnds vol e d)) (λ d lt. go d lt (eqb (vol .edge-from d) (vol .edge-from e)) refl)
-  where
-    go : (d : ℕ) → d < e → (t : Bool) → eqb (vol .edge-from d) (vol .edge-from e) ≡ t → not (sameEnds vol e d) ≡ true
-    go d lt true q =
-        ap not
-        (both-yes _ q
-        ∙ ne-eqb (vol .edge-to d) (vol .edge-to e) (λ z. h d lt (eqb-true (vol .edge-from d) (vol .edge-from e) q ∙ sym a) (z ∙ sym b)))
-    go d lt false q = ap not (both-no _ q)
-
--- a first piece that starts at 0 starts within the period
-pub starts-at-zero : (s : ℕ) → both (eqb s 0) (ltb s day) ≡ eqb s 0
-starts-at-zero s = go (eqb s 0) refl
-  where
-    go : (t : Bool) → eqb s 0 ≡ t → both (eqb s 0) (ltb s day) ≡ eqb s 0
-    go true q = both-yes _ q ∙ lt-ltb s day (let z = eqb-true s 0 q in omega arith) ∙ sym q
-    go false q = both-no _ q ∙ sym q
-
--- what the pass asks of a start: the start before the first does not count
-pub start-rule : (vol : Volume) (e i b s : ℕ) → vol .period ≡ day → (0 < i → b ≡ start vol e (i - 1)) → s ≡ start vol e i
-    → startFits (vol .period) i (start vol e (i - 1)) (start vol e i) ≡ startFits day i b s
-unfolding startFits
-start-rule vol e i b s p h g = go (ℕ-discrete i 0)
-  where
-    go : Dec (i ≡ 0) → both (choose (eqb i 0) (eqb (start vol e i) 0) (ltb (start vol e (i - 1)) (start vol e i))) (ltb (start vol e i) (vol .period))
-        ≡ both (choose (eqb i 0) (eqb s 0) (ltb b s)) (ltb s day)
-    go (yes z) =
-        ap₂ both
-        (choose-yes _ _ (eq-eqb i 0 z) ∙ ap (λ (x : ℕ). eqb x 0) (sym g) ∙ sym (choose-yes (eqb s 0) (ltb b s) (eq-eqb i 0 z)))
-        (ap₂ ltb (sym g) p)
-    go (no ne) = let q = h (omega arith) in (cc)
-
--- what a fit says
-
-pub fit-span : (t : Bool) (x s : ℕ) → Span s ≡ choose t (Span x) FitFault → (t ≡ true) × (s ≡ x)
-unfolding choose
-fit-span true x s h = (refl, (cc))
-fit-span false x s h = absurd (let z : _≡_ {A = ℕ} 0 1 = (cc) in omega arith)
-
-pub fit-fault : (t : Bool) (x : ℕ) → FitFault ≡ choose t (Span x) FitFault → t ≡ false
-unfolding choose
-fit-fault true x h = absurd (let z : _≡_ {A = ℕ} 0 1 = (cc) in omega arith)
-fit-fault false x h = refl
-
--- one piece more
-pub greatest-next : (vol : Volume) (p n : ℕ) → greatestSpan vol p (n + 1) ≡ max (greatestSpan vol p n) (pieceSpan vol (p + n))
-unfolding greatestSpan
-greatest-next vol p n = ap (greatestSpan vol p) (add-one n)
-
--- the walk over the edges that begin at `from` has come to edge d: none before it ends at `to`
-pub record NoneBefore (vol : Volume) (from to d : ℕ) : Type 0 where
-  pub inside : d ≤ vol .edges
-  pub begins-there : d < vol .edges → vol .edge-from d ≡ from
-  pub none : (j : ℕ) → j < d → vol .edge-from j ≡ from → vol .edge-to j ≢ to
-
-pub none-first : (vol : Volume) (from to d : ℕ) → d ≡ nextFrom vol from 0 → NoneBefore vol from to d
-none-first vol from to d h = rw h (record {
-  inside = next-high vol from 0 (omega arith);
-  begins-there = next-begins vol from 0 (omega arith);
-  none = λ j l f. absurd (next-skips vol from 0 j (omega arith) (omega arith) l f);
-})
-
-pub none-next : (vol : Volume) (from to d n : ℕ) → d < vol .edges → NoneBefore vol from to d → vol .edge-to d ≢ to
-    → n ≡ nextFrom vol from (d + 1) → NoneBefore vol from to n
-none-next vol from to d n lt w ne h = rw h (record {
-  inside = next-high vol from (d + 1) (omega arith);
-  begins-there = next-begins vol from (d + 1) (omega arith);
-  none = λ j l f. go j l f (decLt j d) (ℕ-discrete j d);
-})
-  where
-    go : (j : ℕ) → j < nextFrom vol from (d + 1) → vol .edge-from j ≡ from → Dec (j < d) → Dec (j ≡ d) → vol .edge-to j ≢ to
-    go j l f (yes a) q = w .none j a f
-    go j l f (no a) (yes q) = rw q ne
-    go j l f (no a) (no q) = absurd (next-skips vol from (d + 1) j (omega arith) (omega arith) l f)
-
--- what a piece is, from the words that are read
-
-module _ (vol : Volume) (e p from to left right : ℕ) (hf : from ≡ vol .edge-from e) (ht : to ≡ vol .edge-to e)
-    (hl : left ≡ vol .piece-left p) (hr : right ≡ vol .piece-right p)
-  where
-    pub fit-road : right ≡ empty → {t : Bool} → roadJoins vol left from to ≡ t → pieceFit vol e p ≡ choose t (Span 1) FitFault
-    unfolding pieceFits pieceSpan
-    fit-road z {t} q =
-        ap₂ (λ (b : Bool) (n : ℕ). choose b (Span n) FitFault)
-        (choose-yes _ _ (eq-eqb _ _ (sym hr ∙ z)) ∙ (let i : roadJoins vol (vol .piece-left p) (vol .edge-from e) (vol .edge-to e) ≡ t = (cc) in i))
-        (choose-yes _ _ (eq-eqb _ _ (sym hr ∙ z)))
-
-    pub fit-pair : right ≢ empty → {t : Bool} → pairJoins vol e left right from to ≡ t → (a b : ℕ) → a ≡ vol .edge-span left
-        → b ≡ vol .edge-span right → pieceFit vol e p ≡ choose t (Span (a + b)) FitFault
-    unfolding pieceFits pieceSpan
-    fit-pair ne {t} q a b ha hb =
-        ap₂ (λ (b : Bool) (n : ℕ). choose b (Span n) FitFault)
-        (choose-no _ _ (ne-eqb _ _ (λ z. ne (hr ∙ z)))
-        ∙ (let i : pairJoins vol e (vol .piece-left p) (vol .piece-right p) (vol .edge-from e) (vol .edge-to e) ≡ t = (cc) in i))
-        (choose-no _ _ (ne-eqb _ _ (λ z. ne (hr ∙ z))) ∙ (let i : vol .edge-span (vol .piece-left p) + vol .edge-span (vol .piece-right p) ≡ a + b = (cc) in i))
-
--- the halves of a pair that joins are of smaller number
-pub pair-below : (vol : Volume) (e l r from to : ℕ) → pairJoins vol e l r from to ≡ true → (l < e) × (r < e)
-unfolding pairJoins
-pair-below vol e l r from to q =
-    let a = both-left (ltb l e) _ q in
-    let b = both-left (ltb r e) _ (both-right (ltb l e) _ q) in
-    (ltb-true l e a, ltb-true r e b)
-
--- a piece that breaks its rule, by its start or by what it holds, and one that obeys
-
-module _ (vol : Volume) (e i b s : ℕ) (p : vol .period ≡ day) (hb : 0 < i → b ≡ start vol e (i - 1)) (hs : s ≡ start vol e i) where
-  pub late-start : startFits day i b s ≡ false → pieceRule vol e i ≡ false
-  unfolding pieceRule
-  late-start q = both-no _ (start-rule vol e i b s p hb hs ∙ q)
-
-  pub after-start : startFits day i b s ≡ true → pieceRule vol e i ≡ pieceFits vol e (vol .edge-first e + i)
-  unfolding pieceRule
-  after-start q = both-yes _ (start-rule vol e i b s p hb hs ∙ q)
-
--- how the pass over an edge's pieces ends
-
-pub pieces-fault : (vol : Volume) (e : ℕ) → allBelow (vol .edge-pieces e) (pieceRule vol e) ≡ false → piecesFit vol e ≡ FitFault
-pieces-fault vol e q = choose-no _ _ q
-
-pub pieces-fine : (vol : Volume) (e g : ℕ) → allBelow (vol .edge-pieces e) (pieceRule vol e) ≡ true
-    → g ≡ greatestSpan vol (vol .edge-first e) (vol .edge-pieces e) → piecesFit vol e ≡ Span g
-pieces-fine vol e g q h = choose-yes _ _ q ∙ ap Span (sym h)
-
--- what the pass asks of an edge, from the words that it reads
-pub edge-rule : (vol : Volume) (e from to at n begin : ℕ) → from ≡ vol .edge-from e → to ≡ vol .edge-to e → at ≡ vol .edge-first e
-    → n ≡ vol .edge-pieces e → begin ≡ begins (vol .edge-first) (vol .edge-pieces) e
-    → edgeRule vol e
-    ≡ both (endsFit (vol .junctions) from to)
-    (both (newEnds vol e)
-    (both (placed begin (vol .pieces) at n) (both (allBelow (vol .edge-pieces e) (pieceRule vol e)) (spanRule vol e))))
-unfolding edgeRule
-edge-rule vol e from to at n begin a b c d g = (cc)
-
--- and of its span
-pub span-rule : (vol : Volume) (e s g : ℕ) → s ≡ vol .edge-span e → g ≡ greatestSpan vol (vol .edge-first e) (vol .edge-pieces e)
-    → spanRule vol e ≡ both (eqb s g) (leb s mostSpan)
-unfolding spanRule
-span-rule vol e s g a b = (cc)

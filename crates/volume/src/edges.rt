@@ -21,7 +21,8 @@ ghost use Prim.Native.Nat.{ℕ, _+_, _-_, _^_, _≤_, _<_, max};
 ghost use mathlib.Core.List.{List};
 ghost use Rattle.volume.specs.Format.{volumeOf, Counted, Laid, day};
 ghost use Rattle.volume.specs.Rules.{begins, newEnds, roadJoins, pairJoins, startFits, edgeRule};
-ghost use Rattle.volume.specs.Passes.{pieceFit, piecesFit, edgesPass};
+ghost use Rattle.volume.specs.EdgeSteps.{pieceFit, piecesFit};
+ghost use Rattle.volume.specs.Passes.{edgesPass};
 ghost use Rattle.volume.specs.Index.{Linked};
 
 const MOST_SPAN: usize = 4096;

@@ -13,7 +13,8 @@ ghost use Prim.Native.Nat.{_+_, _^_, _≤_, _<_};
 ghost use Rattle.block.specs.First.{allBelow};
 ghost use Rattle.volume.specs.Format.{volumeOf, Counted, Laid, day};
 ghost use Rattle.volume.specs.Rules.{endsFit, placed, begins, pointFits, pointRule, roadRule};
-ghost use Rattle.volume.specs.Passes.{roadsPass, IsPoint, IsNext};
+ghost use Rattle.volume.specs.Passes.{roadsPass};
+ghost use Rattle.volume.specs.RoadSteps.{IsPoint, IsNext};
 
 const LONGEST: u64 = 86400;
 

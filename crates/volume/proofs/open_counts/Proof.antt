@@ -2,7 +2,7 @@ use mathlib.Core.Path.{refl, sym, _∙_}
 use native.Mathlib.Omega.{arith}
 use borrow.Author.Tests.{not-true, not-false, eq-eqb, ne-eqb}
 use borrow.Author.Needs.{needs}
-use Rattle.volume.specs.Opens.{head-few, laid-of, counts-rule}
+use Rattle.volume.specs.OpenSteps.{head-few, laid-of, counts-rule}
 use Rattle.volume.specs.Rules.{fewestBlocks}
 use Rattle.block.specs.Choose.{choose-yes, choose-no, both-yes, both-no}
 use Rattle.volume.proofs.open_counts.Statement.{statement}

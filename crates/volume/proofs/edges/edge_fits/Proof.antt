@@ -2,7 +2,8 @@ use mathlib.Core.Path.{refl, sym, _∙_}
 use native.Mathlib.Omega.{arith}
 use borrow.Author.Tests.{not-true, not-false, eq-eqb, ne-eqb}
 use borrow.Author.Needs.{needs}
-use Rattle.volume.specs.Passes.{ends-fact, edge-rule, span-rule, placed-fact, fit-span, fit-fault}
+use Rattle.volume.specs.Passes.{ends-fact, placed-fact}
+use Rattle.volume.specs.EdgeSteps.{edge-rule, span-rule, fit-span, fit-fault}
 use Rattle.volume.specs.Format.{volumeOf}
 use Rattle.block.specs.Choose.{both-yes, both-no}
 use Rattle.volume.proofs.edges.edge_fits.Statement.{statement}

@@ -3,7 +3,7 @@ use mathlib.Core.Path.{sym, _∙_}
 use native.Mathlib.Omega.{arith}
 use borrow.Author.Needs.{needs}
 use Rattle.volume.specs.Index.{next-low, link-next}
-use Rattle.volume.specs.Passes.{NoneBefore, none-first, none-next, new-found, new-none}
+use Rattle.volume.specs.EdgeSteps.{NoneBefore, none-first, none-next, new-found, new-none}
 use Rattle.volume.specs.Format.{volumeOf}
 use Rattle.volume.proofs.edges.new_ends.Statement.{statement}
 use Rattle.volume.proofs.edges.new_ends.Tie as tie

@@ -2,7 +2,7 @@ use mathlib.Core.Path.{refl, sym, _∙_}
 use native.Mathlib.Omega.{arith}
 use borrow.Author.Needs.{needs}
 use Rattle.block.specs.Choose.{choose}
-use Rattle.volume.specs.Passes.{fit-road, fit-pair, pair-below}
+use Rattle.volume.specs.EdgeSteps.{fit-road, fit-pair, pair-below}
 use Rattle.volume.specs.Format.{volumeOf}
 use Rattle.volume.proofs.edges.piece_fit.Statement.{statement}
 use Rattle.volume.proofs.edges.piece_fit.Tie as tie

@@ -3,7 +3,7 @@ use mathlib.Core.Path.{_≡_, refl, sym, _∙_, ap, ap₂}
 use native.Mathlib.Omega.{arith}
 use borrow.Author.Tests.{not-true, not-false}
 use borrow.Author.Needs.{needs}
-use Rattle.volume.specs.Passes.{pieceFit, late-start, after-start, pieces-fault, pieces-fine, fit-span, fit-fault, greatest-next}
+use Rattle.volume.specs.EdgeSteps.{pieceFit, late-start, after-start, pieces-fault, pieces-fine, fit-span, fit-fault, greatest-next}
 use Rattle.volume.specs.Format.{volumeOf, period-is}
 use Rattle.volume.specs.Rules.{pieceRule, greatestSpan, start}
 use Rattle.block.specs.First.{Passed, first-start, first-go, all-stop, all-end}

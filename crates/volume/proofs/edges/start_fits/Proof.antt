@@ -2,7 +2,7 @@ use mathlib.Core.Bool.{Bool}
 use mathlib.Core.Path.{sym, _∙_, ap}
 use lib.Dec.{ltb}
 use borrow.Author.Tests.{eq-eqb, ne-eqb, lt-ltb, le-ltb}
-use Rattle.volume.specs.Passes.{starts-at-zero}
+use Rattle.volume.specs.EdgeSteps.{starts-at-zero}
 use Rattle.volume.specs.Rules.{startFits}
 use Rattle.volume.specs.Format.{day}
 use Rattle.block.specs.Choose.{both, both-yes, both-no, choose-yes, choose-no}

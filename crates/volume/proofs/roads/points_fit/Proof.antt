@@ -5,7 +5,7 @@ use borrow.Author.Tests.{not-true, not-false, lt-ltb}
 use borrow.Author.Needs.{needs}
 use Rattle.block.specs.Choose.{choose-yes}
 use Rattle.volume.specs.Rules.{nextSecond, nextDuration, pointRule}
-use Rattle.volume.specs.Passes.{point-rule}
+use Rattle.volume.specs.RoadSteps.{point-rule}
 use Rattle.volume.specs.Format.{volumeOf, period-is}
 use Rattle.block.specs.First.{Passed, first-start, first-go, all-stop, all-end}
 use Rattle.volume.proofs.roads.points_fit.Statement.{statement}

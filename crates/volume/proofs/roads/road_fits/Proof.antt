@@ -1,7 +1,8 @@
 use mathlib.Core.Path.{refl, sym, _∙_}
 use native.Mathlib.Omega.{arith}
 use borrow.Author.Needs.{needs}
-use Rattle.volume.specs.Passes.{road-rule, placed-fact}
+use Rattle.volume.specs.RoadSteps.{road-rule}
+use Rattle.volume.specs.Passes.{placed-fact}
 use Rattle.volume.specs.Format.{volumeOf}
 use Rattle.block.specs.Choose.{both-yes, both-no}
 use Rattle.volume.proofs.roads.road_fits.Statement.{statement}
