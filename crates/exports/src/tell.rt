@@ -13,6 +13,15 @@ pub fn tell(out: &mut [u64], a: u64)
     out[0] = a;
 }
 
+// Writes two numbers to the first places.
+pub fn tell_two(out: &mut [u64], a: u64, b: u64)
+    requires { ⌜ 8 ≤ length (now out) ⌝ }
+    ensures { λ r. ⌜ now (out .exit) ≡ withFirst (a ∷ b ∷ []) (now (out .entry)) ⌝ }
+{
+    out[0] = a;
+    out[1] = b;
+}
+
 // Writes four numbers to the first places.
 pub fn tell_four(out: &mut [u64], a: u64, b: u64, c: u64, d: u64)
     requires { ⌜ 8 ≤ length (now out) ⌝ }

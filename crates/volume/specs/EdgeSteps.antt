@@ -1,19 +1,18 @@
 -- What the pass over the edges learns from the words that it reads: of the earlier edges, of a piece, of its start, of an edge. The
 -- span is carried along: `pieceFit` and `piecesFit` are what the code's two passes over pieces answer.
-use Prim.Native.Nat.{ℕ, _+_, _-_, _≤_, _<_, max}
+use Prim.Native.Nat.{ℕ, _+_, _-_, _<_, max}
 use mathlib.Core.Path.{_≡_, refl, sym, _∙_, ap, ap₂}
 use mathlib.Core.Logic.{_≢_}
 use mathlib.Core.Bool.{Bool, true, false, not}
 use native.Mathlib.Omega.{arith}
 use native.Mathlib.Numerals.{add-one}
-use native.Mathlib.Decide.{ℕ-discrete, decLt}
+use native.Mathlib.Decide.{ℕ-discrete}
 use lib.Dec.{eqb, leb, ltb}
 use borrow.Author.Tests.{eq-eqb, ne-eqb, eqb-true, lt-ltb, ltb-true}
 use Rattle.block.specs.Choose.{choose, choose-yes, choose-no, both, both-yes, both-no, both-left, both-right}
 use Rattle.block.specs.First.{allBelow, all-fails, below-all}
 use Rattle.volume.specs.Format.{Volume, day}
 use Rattle.volume.specs.Rules.{endsFit, placed, begins, edgeRule, spanRule, mostSpan, pieceFits, pieceSpan, pieceRule, greatestSpan, newEnds, sameEnds, startFits, start, empty, roadJoins, pairJoins}
-use Rattle.volume.specs.Index.{nextFrom, next-high, next-begins, next-skips}
 use Rattle.volume.specs.declared.edges.Fit.{Fit}
 use Rattle.volume.specs.declared.edges.Fit.the-variants.{Span, Fault as FitFault}
 
@@ -51,32 +50,6 @@ new-none vol e from to a b h = below-all e (λ d. not (sameEnds vol e d)) (λ d 
         (both-yes _ q
         ∙ ne-eqb (vol .edge-to d) (vol .edge-to e) (λ z. h d lt (eqb-true (vol .edge-from d) (vol .edge-from e) q ∙ sym a) (z ∙ sym b)))
     go d lt false q = ap not (both-no _ q)
-
--- the walk over the edges that begin at `from` has come to edge d: none before it ends at `to`
-pub record NoneBefore (vol : Volume) (from to d : ℕ) : Type 0 where
-  pub inside : d ≤ vol .edges
-  pub begins-there : d < vol .edges → vol .edge-from d ≡ from
-  pub none : (j : ℕ) → j < d → vol .edge-from j ≡ from → vol .edge-to j ≢ to
-
-pub none-first : (vol : Volume) (from to d : ℕ) → d ≡ nextFrom vol from 0 → NoneBefore vol from to d
-none-first vol from to d h = rw h (record {
-  inside = next-high vol from 0 (omega arith);
-  begins-there = next-begins vol from 0 (omega arith);
-  none = λ j l f. absurd (next-skips vol from 0 j (omega arith) (omega arith) l f);
-})
-
-pub none-next : (vol : Volume) (from to d n : ℕ) → d < vol .edges → NoneBefore vol from to d → vol .edge-to d ≢ to
-    → n ≡ nextFrom vol from (d + 1) → NoneBefore vol from to n
-none-next vol from to d n lt w ne h = rw h (record {
-  inside = next-high vol from (d + 1) (omega arith);
-  begins-there = next-begins vol from (d + 1) (omega arith);
-  none = λ j l f. go j l f (decLt j d) (ℕ-discrete j d);
-})
-  where
-    go : (j : ℕ) → j < nextFrom vol from (d + 1) → vol .edge-from j ≡ from → Dec (j < d) → Dec (j ≡ d) → vol .edge-to j ≢ to
-    go j l f (yes a) q = w .none j a f
-    go j l f (no a) (yes q) = rw q ne
-    go j l f (no a) (no q) = absurd (next-skips vol from (d + 1) j (omega arith) (omega arith) l f)
 
 -- a first piece that starts at 0 starts within the period
 pub starts-at-zero : (s : ℕ) → both (eqb s 0) (ltb s day) ≡ eqb s 0

@@ -7,7 +7,7 @@ use mathlib.Core.Bool.{Bool, not}
 use mathlib.Core.List.{List, _++_}
 use native.Mathlib.Omega.{arith}
 use native.Mathlib.Numerals.{add-one}
-use native.Mathlib.Decide.{ℕ-discrete}
+use native.Mathlib.Decide.{ℕ-discrete, decLt}
 use lib.ListN.{length, getD, set, drop, replicate, length-append, length-replicate, length-drop, length-set, getD-replicate, List·getD-append}
 use lib.Seq.{getD-append-add, getD-drop, getD-set-same, getD-set-other}
 use lib.Dec.{eqb}
@@ -102,6 +102,32 @@ module _ (vol : Volume) (u : ℕ) where
 pub link-next : (vol : Volume) (first next : List ℕ) (u d : ℕ) → Linked vol first next → d < vol .edges → vol .edge-from d ≡ u
     → u < vol .junctions → getD next d 0 ≡ nextFrom vol u (d + 1)
 link-next vol first next u d L lt f h = L .nexts d lt (omega arith) ∙ ap (λ (w : ℕ). nextFrom vol w (d + 1)) f
+
+-- the walk over the edges that begin at `from` has come to edge d: none before it ends at `to`
+pub record NoneBefore (vol : Volume) (from to d : ℕ) : Type 0 where
+  pub inside : d ≤ vol .edges
+  pub begins-there : d < vol .edges → vol .edge-from d ≡ from
+  pub none : (j : ℕ) → j < d → vol .edge-from j ≡ from → vol .edge-to j ≢ to
+
+pub none-first : (vol : Volume) (from to d : ℕ) → d ≡ nextFrom vol from 0 → NoneBefore vol from to d
+none-first vol from to d h = rw h (record {
+  inside = next-high vol from 0 (omega arith);
+  begins-there = next-begins vol from 0 (omega arith);
+  none = λ j l f. absurd (next-skips vol from 0 j (omega arith) (omega arith) l f);
+})
+
+pub none-next : (vol : Volume) (from to d n : ℕ) → d < vol .edges → NoneBefore vol from to d → vol .edge-to d ≢ to
+    → n ≡ nextFrom vol from (d + 1) → NoneBefore vol from to n
+none-next vol from to d n lt w ne h = rw h (record {
+  inside = next-high vol from (d + 1) (omega arith);
+  begins-there = next-begins vol from (d + 1) (omega arith);
+  none = λ j l f. go j l f (decLt j d) (ℕ-discrete j d);
+})
+  where
+    go : (j : ℕ) → j < nextFrom vol from (d + 1) → vol .edge-from j ≡ from → Dec (j < d) → Dec (j ≡ d) → vol .edge-to j ≢ to
+    go j l f (yes a) q = w .none j a f
+    go j l f (no a) (yes q) = rw q ne
+    go j l f (no a) (no q) = absurd (next-skips vol from (d + 1) j (omega arith) (omega arith) l f)
 
 -- how the index is made
 

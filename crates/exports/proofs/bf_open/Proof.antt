@@ -6,8 +6,8 @@ use Rattle.exports.proofs.bf_open.Statement.{statement}
 use Rattle.exports.proofs.bf_open.Tie as tie
 use Rattle.exports.proofs.bf_open.Reads as reads
 use Rattle.exports.proofs.bf_open.Lts as lts
-use Rattle.exports.proofs.tell.Reads as tell-reads
-use Rattle.exports.proofs.tell_five.Reads as tell-five-reads
+use Rattle.exports.proofs.tell.tell.Reads as tell-reads
+use Rattle.exports.proofs.tell.tell_five.Reads as tell-five-reads
 use Rattle.volume.proofs.open.Reads as open-reads
 
 -- src/lib.rt:55:9

@@ -6,7 +6,7 @@ use Rattle.exports.proofs.tell_time.Statement.{statement}
 use Rattle.exports.proofs.tell_time.Tie as tie
 use Rattle.exports.proofs.tell_time.Reads as reads
 use Rattle.exports.proofs.tell_time.Lts as lts
-use Rattle.exports.proofs.tell.Reads as tell-reads
+use Rattle.exports.proofs.tell.tell.Reads as tell-reads
 
 -- src/lib.rt:83:23
 enum-known-timing : tie.Need-enum-known-timing

@@ -2,8 +2,8 @@ use Prim.Native.Nat.{_+_, _-_, _<_}
 use mathlib.Core.Path.{sym, _∙_}
 use native.Mathlib.Omega.{arith}
 use borrow.Author.Needs.{needs}
-use Rattle.volume.specs.Index.{next-low, link-next}
-use Rattle.volume.specs.EdgeSteps.{NoneBefore, none-first, none-next, new-found, new-none}
+use Rattle.volume.specs.Index.{next-low, link-next, NoneBefore, none-first, none-next}
+use Rattle.volume.specs.EdgeSteps.{new-found, new-none}
 use Rattle.volume.specs.Format.{volumeOf}
 use Rattle.volume.proofs.edges.new_ends.Statement.{statement}
 use Rattle.volume.proofs.edges.new_ends.Tie as tie

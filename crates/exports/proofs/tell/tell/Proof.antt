@@ -2,10 +2,10 @@ use Rattle.exports.specs.Told.{stored}
 use native.Mathlib.Omega.{arith}
 use mathlib.Core.List.{[], _∷_}
 use borrow.Author.Needs.{needs}
-use Rattle.exports.proofs.tell.Statement.{statement}
-use Rattle.exports.proofs.tell.Tie as tie
-use Rattle.exports.proofs.tell.Reads as reads
-use Rattle.exports.proofs.tell.Lts as lts
+use Rattle.exports.proofs.tell.tell.Statement.{statement}
+use Rattle.exports.proofs.tell.tell.Tie as tie
+use Rattle.exports.proofs.tell.tell.Reads as reads
+use Rattle.exports.proofs.tell.tell.Lts as lts
 
 -- src/lib.rt:22:5
 slice-write-out : tie.Need-slice-write-out

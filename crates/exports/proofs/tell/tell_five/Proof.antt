@@ -3,10 +3,10 @@ use lib.ListN.{length-set}
 use native.Mathlib.Omega.{arith}
 use mathlib.Core.List.{[], _∷_}
 use borrow.Author.Needs.{needs}
-use Rattle.exports.proofs.tell_five.Statement.{statement}
-use Rattle.exports.proofs.tell_five.Tie as tie
-use Rattle.exports.proofs.tell_five.Reads as reads
-use Rattle.exports.proofs.tell_five.Lts as lts
+use Rattle.exports.proofs.tell.tell_five.Statement.{statement}
+use Rattle.exports.proofs.tell.tell_five.Tie as tie
+use Rattle.exports.proofs.tell.tell_five.Reads as reads
+use Rattle.exports.proofs.tell.tell_five.Lts as lts
 
 -- src/lib.rt:30:5
 slice-write-out : tie.Need-slice-write-out

@@ -1,0 +1,80 @@
+use mathlib.Core.Path.{sym, _∙_}
+use native.Mathlib.Omega.{arith}
+use lib.ListN.{replicate}
+use borrow.Author.Needs.{needs}
+use Rattle.full.specs.Faults.{faults-road, faults-pair}
+use Rattle.volume.specs.Index.{indexed-linked}
+use Rattle.volume.specs.Format.{volumeOf}
+use Rattle.full.proofs.Tags.{other-than-full}
+use Rattle.full.proofs.fault_of.Statement.{statement}
+use Rattle.full.proofs.fault_of.Tie as tie
+
+slice-aggregate-index-edges : tie.Need-slice-aggregate-index-edges
+slice-aggregate-index-edges c = search needs
+
+slice-aggregate-index-edges-2 : tie.Need-slice-aggregate-index-edges-2
+slice-aggregate-index-edges-2 c = search needs
+
+index-edges-requires : tie.Need-index-edges-requires
+index-edges-requires c κs = search needs
+
+slice-aggregate-roads-fault : tie.Need-slice-aggregate-roads-fault
+slice-aggregate-roads-fault c = search needs
+
+slice-aggregate-roads-fault-2 : tie.Need-slice-aggregate-roads-fault-2
+slice-aggregate-roads-fault-2 c = search needs
+
+roads-fault-requires : tie.Need-roads-fault-requires
+roads-fault-requires c κs =
+    let i = c .before .before .before .before in
+    let s = i .before .before .before .before in
+    let n = s .pre .1 .1 .0 in
+    let few = s .pre .1 .1 .1 in
+    let L = indexed-linked (volumeOf (s .args .v .now)) (replicate 1024 0) (replicate 16384 0) _ _ (omega (arith, few, n .junctions)) (omega (arith, few, n .edges)) (i .index-edges .ensures) in
+    (record { laid = s .pre .0; sound = s .pre .1 .0; linked = L; counted = n .edges }, n .roads)
+
+enum-told : tie.Need-enum-told
+enum-told c = search needs
+
+returns : tie.Need-returns
+returns c =
+    let s = c .before .before .before .before .before .before .before .before .before .before in
+    faults-road (volumeOf (s .args .v .now)) _ (c .before .roads-fault .ensures) (other-than-full _ (c .match .keys2))
+
+slice-aggregate-lefts-fault : tie.Need-slice-aggregate-lefts-fault
+slice-aggregate-lefts-fault c = search needs
+
+slice-aggregate-lefts-fault-2 : tie.Need-slice-aggregate-lefts-fault-2
+slice-aggregate-lefts-fault-2 c = search needs
+
+lefts-fault-requires : tie.Need-lefts-fault-requires
+lefts-fault-requires c κs =
+    let i = c .before .before .before .before .before .before .before .before .before in
+    let s = i .before .before .before .before in
+    let n = s .pre .1 .1 .0 in
+    let few = s .pre .1 .1 .1 in
+    let L = indexed-linked (volumeOf (s .args .v .now)) (replicate 1024 0) (replicate 16384 0) _ _ (omega (arith, few, n .junctions)) (omega (arith, few, n .edges)) (i .index-edges .ensures) in
+    record { laid = s .pre .0; sound = s .pre .1 .0; linked = L; counted = n .edges }
+
+returns-2 : tie.Need-returns-2
+returns-2 c =
+    let t = c .before .before .before in
+    let s = t .before .before .before .before .before .before .before .before .before .before .before in
+    faults-pair (volumeOf (s .args .v .now)) _ (sym (t .before .before .roads-fault .ensures) ∙ t .enum-told .given .1) (c .lefts-fault .ensures)
+
+pub fault-of-spec : {M : Type 1} → statement M
+fault-of-spec =
+    tie.close
+    (tie.spec
+    slice-aggregate-index-edges
+    slice-aggregate-index-edges-2
+    index-edges-requires
+    slice-aggregate-roads-fault
+    slice-aggregate-roads-fault-2
+    roads-fault-requires
+    enum-told
+    returns
+    slice-aggregate-lefts-fault
+    slice-aggregate-lefts-fault-2
+    lefts-fault-requires
+    returns-2)

@@ -1,0 +1,11 @@
+pub mod Promises
+pub mod Cover
+pub mod Fault
+pub mod Means
+pub mod Runs
+pub mod Turns
+pub mod Parts
+pub mod Covers
+pub mod Faults
+pub mod Coverings
+pub mod Answers

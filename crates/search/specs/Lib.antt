@@ -1,0 +1,7 @@
+pub mod Trail
+pub mod Path
+pub mod Answer
+pub mod Asked
+pub mod Tells
+pub mod Clock
+pub mod Promises
