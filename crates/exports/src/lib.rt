@@ -14,8 +14,8 @@ ghost use Rattle.travel.specs.Times.{roadTimeOf, edgeTimeOf};
 ghost use Rattle.exports.specs.Told.{toldNumber, toldPlaces};
 ghost use Rattle.exports.specs.Numbers.{sealingNumber, openingTold, timingTold};
 
-pub mod check;
-pub mod search;
+pub mod checking;
+pub mod searching;
 pub mod tell;
 
 // Seals a volume: 0, or the refusal's number.

@@ -1,35 +1,23 @@
+use mathlib.Core.Path.{ap, _∙_}
+use borrow.Author.Needs.{needs}
 use Rattle.travel.specs.declared.Timing.{Timing}
 use Rattle.exports.specs.Numbers.{timingTold}
-use Rattle.exports.specs.Told.{toldNumber, toldPlaces}
-use Prim.Native.Nat.{ℕ}
-use mathlib.Core.List.{List}
-use mathlib.Core.Path.{ap, _∙_}
-use Rattle.exports.specs.Told.{tells-not}
-use borrow.Author.Needs.{needs}
+use Rattle.exports.specs.Told.{toldNumber, toldPlaces, tells-not}
 use Rattle.exports.proofs.bf_edge_time.Statement.{statement}
 use Rattle.exports.proofs.bf_edge_time.Tie as tie
-use Rattle.exports.proofs.bf_edge_time.Reads as reads
-use Rattle.exports.proofs.bf_edge_time.Lts as lts
-use Rattle.exports.proofs.tell_time.Reads as tell-time-reads
-use Rattle.travel.proofs.edge_time.Reads as edge-time-reads
 
--- src/lib.rt:111:9
 returns : tie.Need-returns
 returns c = tells-not _ _ (c .if1 .taken)
 
--- src/lib.rt:113:15
 edge-time-requires : tie.Need-edge-time-requires
 edge-time-requires c κs = search needs
 
--- src/lib.rt:113:5
 tell-time-requires : tie.Need-tell-time-requires
 tell-time-requires c κs = search needs
 
--- src/lib.rt:106:1
 same-length : tie.Need-same-length
 same-length c = search needs
 
--- src/lib.rt:106:1
 returns-2 : tie.Need-returns-2
 returns-2 c =
     let out = c .before .before .before .before .before .before .before .before .args .out .now in

@@ -1,54 +1,39 @@
-use Rattle.exports.specs.Numbers.{openingTold}
 use mathlib.Core.Path.{ap, sym, _∙_}
-use Rattle.exports.specs.Told.{tells, tells-not}
 use borrow.Author.Needs.{needs}
+use Rattle.exports.specs.Numbers.{openingTold}
+use Rattle.exports.specs.Told.{tells, tells-not}
 use Rattle.exports.proofs.bf_open.Statement.{statement}
 use Rattle.exports.proofs.bf_open.Tie as tie
-use Rattle.exports.proofs.bf_open.Reads as reads
-use Rattle.exports.proofs.bf_open.Lts as lts
-use Rattle.exports.proofs.tell.tell.Reads as tell-reads
-use Rattle.exports.proofs.tell.tell_five.Reads as tell-five-reads
-use Rattle.volume.proofs.open.Reads as open-reads
 
--- src/lib.rt:55:9
 returns : tie.Need-returns
 returns c = tells-not _ _ (c .if1 .taken)
 
--- src/lib.rt:57:9
 open-requires : tie.Need-open-requires
 open-requires c κs = search needs
 
--- src/lib.rt:59:25
 enum-known-opening : tie.Need-enum-known-opening
 enum-known-opening c = search needs
 
--- src/lib.rt:60:13
 tell-five-requires : tie.Need-tell-five-requires
 tell-five-requires c κs = search needs
 
--- src/lib.rt:70:26
 enum-known-opening-2 : tie.Need-enum-known-opening-2
 enum-known-opening-2 c = search needs
 
--- src/lib.rt:71:13
 tell-requires : tie.Need-tell-requires
 tell-requires c κs = search needs
 
--- src/lib.rt:50:1
 same-length : tie.Need-same-length
 same-length c = search needs
 
--- src/lib.rt:50:1
 returns-2 : tie.Need-returns-2
 returns-2 c =
     let o = c .before .before .before .before .before .before .before .«open» .ensures in
     tells _ _ _ _ (ap openingTold (sym (c .before .before .before .before .before .opening .given .1) ∙ o)) (search needs) (c .before .before .tell-five .ensures)
 
--- src/lib.rt:50:1
 same-length-2 : tie.Need-same-length-2
 same-length-2 c = search needs
 
--- src/lib.rt:50:1
 returns-3 : tie.Need-returns-3
 returns-3 c =
     let o = c .before .before .before .before .before .before .before .«open» .ensures in

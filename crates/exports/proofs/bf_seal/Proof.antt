@@ -1,39 +1,29 @@
-use Rattle.block.specs.Seal.{paper}
 use mathlib.Core.Path.{ap, sym, _∙_}
 use borrow.Author.Needs.{needs}
+use Rattle.block.specs.Seal.{paper}
 use Rattle.exports.proofs.bf_seal.Statement.{statement}
 use Rattle.exports.proofs.bf_seal.Tie as tie
-use Rattle.exports.proofs.bf_seal.Reads as reads
-use Rattle.exports.proofs.bf_seal.Lts as lts
-use Rattle.block.proofs.seal.Reads as seal-reads
 
--- src/lib.rt:42:9
 seal-requires : tie.Need-seal-requires
 seal-requires c κs = search needs
 
--- src/lib.rt:44:28
 enum-told : tie.Need-enum-told
 enum-told c = search needs
 
--- src/lib.rt:45:26
 enum-known-sealing : tie.Need-enum-known-sealing
 enum-known-sealing c = search needs
 
--- src/lib.rt:38:1
 same-length : tie.Need-same-length
 same-length c = search needs
 
--- src/lib.rt:38:1
 returns : tie.Need-returns
 returns c =
     let s = c .before .before .before .before .seal .ensures in
     (ap paper (sym (c .enum-told .given .1) ∙ s .0), s .1)
 
--- src/lib.rt:38:1
 same-length-2 : tie.Need-same-length-2
 same-length-2 c = search needs
 
--- src/lib.rt:38:1
 returns-2 : tie.Need-returns-2
 returns-2 c =
     let s = c .before .before .before .before .before .seal .ensures in

@@ -1,44 +1,33 @@
 use mathlib.Core.Path.{ap, sym}
+use borrow.Author.Needs.{needs}
 use Rattle.exports.specs.Numbers.{timingTold}
 use Rattle.exports.specs.Told.{tells}
-use borrow.Author.Needs.{needs}
 use Rattle.exports.proofs.tell_time.Statement.{statement}
 use Rattle.exports.proofs.tell_time.Tie as tie
-use Rattle.exports.proofs.tell_time.Reads as reads
-use Rattle.exports.proofs.tell_time.Lts as lts
-use Rattle.exports.proofs.tell.tell.Reads as tell-reads
 
--- src/lib.rt:83:23
 enum-known-timing : tie.Need-enum-known-timing
 enum-known-timing c = search needs
 
--- src/lib.rt:84:13
 tell-requires : tie.Need-tell-requires
 tell-requires c κs = search needs
 
--- src/lib.rt:87:25
 enum-known-timing-2 : tie.Need-enum-known-timing-2
 enum-known-timing-2 c = search needs
 
--- src/lib.rt:88:13
 tell-requires-2 : tie.Need-tell-requires-2
 tell-requires-2 c κs = search needs
 
--- src/lib.rt:78:1
 same-length : tie.Need-same-length
 same-length c = search needs
 
--- src/lib.rt:78:1
 returns : tie.Need-returns
 returns c =
     let s = c .before .before .before .before .before .before .before .before in
     tells _ _ _ _ (ap timingTold (sym (c .before .before .before .before .before .timing .given .1))) (s .pre) (c .before .before .tell .ensures)
 
--- src/lib.rt:78:1
 same-length-2 : tie.Need-same-length-2
 same-length-2 c = search needs
 
--- src/lib.rt:78:1
 returns-2 : tie.Need-returns-2
 returns-2 c =
     let s = c .before .before .before .before .before .before .before .before in

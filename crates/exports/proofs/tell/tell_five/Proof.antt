@@ -1,38 +1,29 @@
-use Rattle.exports.specs.Told.{stored}
-use lib.ListN.{length-set}
-use native.Mathlib.Omega.{arith}
 use mathlib.Core.List.{[], _∷_}
+use native.Mathlib.Omega.{arith}
+use lib.ListN.{length-set}
 use borrow.Author.Needs.{needs}
+use Rattle.exports.specs.Told.{stored}
 use Rattle.exports.proofs.tell.tell_five.Statement.{statement}
 use Rattle.exports.proofs.tell.tell_five.Tie as tie
-use Rattle.exports.proofs.tell.tell_five.Reads as reads
-use Rattle.exports.proofs.tell.tell_five.Lts as lts
 
--- src/lib.rt:30:5
 slice-write-out : tie.Need-slice-write-out
 slice-write-out c = search needs
 
--- src/lib.rt:31:5
 slice-write-out-2 : tie.Need-slice-write-out-2
 slice-write-out-2 c = simp length-set (omega arith)
 
--- src/lib.rt:32:5
 slice-write-out-3 : tie.Need-slice-write-out-3
 slice-write-out-3 c = simp length-set (omega arith)
 
--- src/lib.rt:33:5
 slice-write-out-4 : tie.Need-slice-write-out-4
 slice-write-out-4 c = simp length-set (omega arith)
 
--- src/lib.rt:34:5
 slice-write-out-5 : tie.Need-slice-write-out-5
 slice-write-out-5 c = simp length-set (omega arith)
 
--- src/lib.rt:26:1
 same-length : tie.Need-same-length
 same-length c = search needs
 
--- src/lib.rt:26:1
 returns : tie.Need-returns
 returns c = let a = c .args in stored (a .out .now) (a .a ∷ a .b ∷ a .c ∷ a .d ∷ a .e ∷ []) (omega arith)
 

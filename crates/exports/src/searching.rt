@@ -6,6 +6,7 @@ use crate::tell::tell_two;
 use search::Answer;
 use settle::Upper;
 ghost use mathlib.Core.Path.{_≡_};
+ghost use Prim.Native.Nat.{_≤_};
 ghost use lib.ListN.{length};
 ghost use Rattle.exports.specs.Searched.{HostSearched};
 ghost use Rattle.exports.specs.Told.{toldNumber, toldPlaces};
