@@ -4,7 +4,6 @@ pub mod Sums
 pub mod Good
 pub mod Whole
 pub mod Seal
-pub mod Cases
 pub mod Choose
 pub mod First
 pub mod Store

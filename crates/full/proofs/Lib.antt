@@ -1,1 +1,2 @@
+-- what the proofs of the passes share
 mod Tags

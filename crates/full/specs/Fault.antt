@@ -1,5 +1,5 @@
 -- What the full check answers: document 01, "Full". The fault of each road and of each pair of edges, the first fault of a row of
--- them, and the whole answer; at the end the document's numbers of each case. Promises says what the answers mean.
+-- them, and the whole answer. The numbers of each answer are in Paper, and what it says in Means.
 use Prim.Native.Nat.{ℕ}
 use mathlib.Core.Bool.{Bool, true, false, not}
 use mathlib.Core.List.{List}
@@ -58,13 +58,15 @@ module _ (vol : Volume) where
   unfoldable pub pairFault : ℕ → ℕ → Verdict
   pairFault l r = choose (isPair l r) (ofPair l r (coverOf vol (vol .edge-from l) (vol .edge-to r) (pair-of l r))) Full
 
-  -- the first fault: of the roads by number; of the pairs with left edge l by the right one's number; of all pairs by the left one's
+  -- the first fault of a road, by number
   unfoldable pub roadsFault : Verdict
   roadsFault = firstFault roadFault (vol .roads)
 
+  -- the first fault of a pair with left edge l, by the right one's number
   unfoldable pub rightsFault : ℕ → Verdict
   rightsFault l = firstFault (pairFault l) (vol .edges)
 
+  -- the first fault of a pair, by the left edge's number
   unfoldable pub leftsFault : Verdict
   leftsFault = firstFault rightsFault (vol .edges)
 
@@ -80,18 +82,3 @@ answered (opening.Refused number place) a = Refused number place
 -- what the check answers
 unfoldable pub verdictOf : List ℕ → Verdict
 verdictOf v = answered (openOf v) (faultOf (volumeOf v))
-
--- the document's numbers of each answer: a kind (0 full, 1 a road's edge missing, 2 a road's edge late, 3 a pair's edge missing, 4 a
--- pair's edge late), the road or the left edge, the right edge or 0, and the earliest late second, 0 for a missing edge; or the
--- number of a refusal and its place
-pub data Paper : Type 0 where
-  found : ℕ → ℕ → ℕ → ℕ → Paper
-  refusal : ℕ → ℕ → Paper
-
-abbrev pub paper : Verdict → Paper
-paper Full = found 0 0 0 0
-paper (RoadMissing k) = found 1 k 0 0
-paper (RoadLate k x) = found 2 k 0 x
-paper (PairMissing l r) = found 3 l r 0
-paper (PairLate l r x) = found 4 l r x
-paper (Refused number place) = refusal number place

@@ -16,17 +16,19 @@ use Rattle.travel.specs.Last.{lastLe, IsLast, last-is, above-from}
 use Rattle.travel.specs.Network.{pieceAt, pieceOf, HasPiece, road-at, pair-at}
 use Rattle.travel.specs.Halves.{edge-by-piece}
 use Rattle.full.specs.Cover.{named, arrivalBy, notAfter, noSlower, firstLate}
-use Rattle.full.specs.Turns.{Named}
+use Rattle.full.specs.Turns.{Names}
 use Rattle.full.specs.Runs.{firstFrom, from-same, first-inside, first-past}
 
 -- where piece i, of the n pieces from piece `first` on, ends: where the next starts, or with the period
 unfoldable pub pieceEnd : Volume → ℕ → ℕ → ℕ → ℕ
 pieceEnd vol first n i = choose (ltb (i + 1) n) (vol .piece-start (first + i + 1)) (vol .period)
 
+-- before the last
 pub end-next : (vol : Volume) (first n i : ℕ) → i + 1 < n → pieceEnd vol first n i ≡ vol .piece-start (first + i + 1)
 unfolding pieceEnd
 end-next vol first n i h = choose-yes _ _ (lt-ltb (i + 1) n h)
 
+-- the last
 pub end-last : (vol : Volume) (first n i : ℕ) → n ≤ i + 1 → pieceEnd vol first n i ≡ vol .period
 unfolding pieceEnd
 end-last vol first n i h = choose-no _ _ (le-ltb (i + 1) n h)
@@ -45,11 +47,12 @@ module _ (vol : Volume) (S : Sound vol) (e first n : ℕ) (h : e < vol .edges) (
   }
 
   module _ (i : ℕ) (hi : i < n) where
+    -- where the next piece starts
     next-start : vol .piece-start (first + i + 1) ≡ start vol e (i + 1)
     next-start = ap (vol .piece-start) (let z : first + i + 1 ≡ vol .edge-first e + (i + 1) = omega arith in z)
 
     -- piece i is named
-    pub piece-named : (a b : ℕ) → a ≡ vol .piece-left (first + i) → b ≡ vol .piece-right (first + i) → Named vol a b
+    pub piece-named : (a b : ℕ) → a ≡ vol .piece-left (first + i) → b ≡ vol .piece-right (first + i) → Names vol a b
     piece-named a b ha hb =
         let of : HasPiece vol e (first + i) = record { low = omega arith; high = omega arith } in
         rw (ha, hb) (record {

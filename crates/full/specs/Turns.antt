@@ -6,13 +6,15 @@ use mathlib.Core.Logic.{_≢_}
 use mathlib.Core.List.{List}
 use mathlib.Core.Bool.{true, false}
 use native.Mathlib.Omega.{arith}
+use lib.ListN.{length}
 use borrow.Author.Tests.{eq-eqb, ne-eqb, le-leb, lt-leb}
 use Rattle.block.specs.Choose.{choose-yes, choose-no}
 use Rattle.theory.specs.Network.{Piece, road-of, pair-of, by-piece, edge-arr}
-use Rattle.volume.specs.Format.{Volume, volumeOf, Laid, day}
+use Rattle.volume.specs.Format.{Volume, volumeOf, Laid, Counted, day}
 use Rattle.volume.specs.Rules.{empty}
 use Rattle.volume.specs.Sound.{Sound}
-use Rattle.volume.specs.Index.{Linked}
+use Rattle.volume.specs.Index.{Linked, Indexed, indexed-linked}
+use Rattle.volume.specs.declared.tables.Counts.{Counts}
 use Rattle.volume.specs.declared.tables.Tables.{Tables}
 use Rattle.travel.specs.Network.{networkOf, period-of, arrival, roadTime, Enters}
 use Rattle.travel.specs.Halves.{edge-short}
@@ -25,25 +27,38 @@ pub record Ready (v : List ℕ) (t : Tables) (first next : List ℕ) (edges : �
   pub linked : Linked (volumeOf v) first next
   pub counted : edges ≡ volumeOf v .edges
 
+-- a sound volume is ready once its edges are indexed
+pub ready : (v : List ℕ) (t : Tables) (c : Counts) (first₀ next₀ first next : List ℕ) → Laid v t → Sound (volumeOf v) → Counted (volumeOf v) c
+    → c .junctions ≤ length first₀ → c .edges ≤ length next₀ → Indexed (volumeOf v) first₀ next₀ first next 0
+    → Ready v t first next (c .edges)
+ready v t c first₀ next₀ first next L S n a b I = record {
+  laid = L;
+  sound = S;
+  linked = indexed-linked (volumeOf v) first₀ next₀ first next (omega (arith, n .junctions)) (omega (arith, n .edges)) I;
+  counted = n .edges;
+}
+
 -- left and right name a road of the volume, or two of its edges
-pub record Named (vol : Volume) (left right : ℕ) : Type 0 where
+pub record Names (vol : Volume) (left right : ℕ) : Type 0 where
   pub road : right ≡ empty → left < vol .roads
   pub left-edge : right ≢ empty → left < vol .edges
   pub right-edge : right ≢ empty → right < vol .edges
 
-pub names-road : (vol : Volume) (k : ℕ) → k < vol .roads → Named vol k empty
+-- road k
+pub names-road : (vol : Volume) (k : ℕ) → k < vol .roads → Names vol k empty
 names-road vol k h = record { road = λ z. h; left-edge = λ n. absurd (n refl); right-edge = λ n. absurd (n refl) }
 
-pub names-pair : (vol : Volume) (l r : ℕ) → Sound vol → l < vol .edges → r < vol .edges → Named vol l r
+-- the edges l and r
+pub names-pair : (vol : Volume) (l r : ℕ) → Sound vol → l < vol .edges → r < vol .edges → Names vol l r
 names-pair vol l r S a b =
     record { road = λ z. absurd (omega (arith, S .edges-few)); left-edge = λ n. a; right-edge = λ n. b }
 
--- a road, by the two numbers
+-- what they name: a road
 pub named-road : (k : ℕ) → named k empty ≡ road-of k
 unfolding named
 named-road k = choose-yes (road-of k) (pair-of k empty) (eq-eqb empty empty refl)
 
--- two edges
+-- or two edges
 pub named-pair : (l r : ℕ) → r ≢ empty → named l r ≡ pair-of l r
 unfolding named
 named-pair l r n = choose-no (road-of l) (pair-of l r) (ne-eqb r empty n)
@@ -58,13 +73,14 @@ pub record Turn (vol : Volume) (left right x : ℕ) : Type 0 where
   pub arrives : (a b : ℕ) → x + a ≡ arrival vol left x → x + a + b ≡ arrival vol right (x + a)
       → x + (a + b) ≡ arrivalBy vol (named left right) x
 
-module _ (vol : Volume) (S : Sound vol) (left right x : ℕ) (N : Named vol left right) where
+module _ (vol : Volume) (S : Sound vol) (left right x : ℕ) (N : Names vol left right) where
   -- a road's duration leads to its arrival
   pub road-turn : (d : ℕ) → right ≡ empty → d ≡ roadTime vol left x → x + d ≡ arrivalBy vol (named left right) x
   road-turn d z k =
       ap (λ (a : ℕ). x + a) (k ∙ ap (λ (t : ℕ). networkOf vol .duration left (x % t)) (sym (period-of vol)))
       ∙ sym (ap (by-piece (networkOf vol) (edge-arr (networkOf vol)) x) (ap (named left) z ∙ named-road left))
 
+  -- two edges' durations lead to theirs
   pub pair-turn : vol .period ≡ day → x < vol .period → right ≢ empty → Turn vol left right x
   pair-turn p h n =
       let hl = N .left-edge n in
@@ -87,10 +103,12 @@ module _ (vol : Volume) (S : Sound vol) (left right x : ℕ) (N : Named vol left
 module _ (vol : Volume) where
   -- a and b are the durations by p and by q, entered at x
   module _ (p q : Piece) (x a b : ℕ) (ha : x + a ≡ arrivalBy vol p x) (hb : x + b ≡ arrivalBy vol q x) where
+    -- p is slower
     pub turn-late : b < a → notAfter vol p q x ≡ false
     unfolding notAfter
     turn-late h = lt-leb (arrivalBy vol p x) (arrivalBy vol q x) (omega arith)
 
+    -- p is not
     pub turn-in-time : a ≤ b → notAfter vol p q x ≡ true
     unfolding notAfter
     turn-in-time h = le-leb (arrivalBy vol p x) (arrivalBy vol q x) (omega arith)

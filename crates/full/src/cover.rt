@@ -16,7 +16,7 @@ ghost use Prim.Native.Nat.{_+_, _≤_, _<_};
 ghost use Rattle.volume.specs.Format.{volumeOf, Laid};
 ghost use Rattle.volume.specs.Sound.{Sound};
 ghost use Rattle.full.specs.Cover.{named, arrivalBy, notAfter, edgeWith, firstLate, coverOf};
-ghost use Rattle.full.specs.Turns.{Named, Ready};
+ghost use Rattle.full.specs.Turns.{Names, Ready};
 ghost use Rattle.full.specs.Parts.{pieceEnd};
 ghost use Rattle.full.specs.Runs.{firstFrom};
 
@@ -56,7 +56,7 @@ fn find_edge(
 fn in_turn(v: &[u8], t: Tables, left: usize, right: usize, x: u64) -> u64
     requires { ⌜ Laid (now v) t ⌝ }
     requires { ⌜ Sound (volumeOf (now v)) ⌝ }
-    requires { ⌜ Named (volumeOf (now v)) left right ⌝ }
+    requires { ⌜ Names (volumeOf (now v)) left right ⌝ }
     requires { ⌜ x < volumeOf (now v) .period ⌝ }
     ensures { λ r. ⌜ x + r ≡ arrivalBy (volumeOf (now (v .entry))) (named left right) x ⌝ }
 {
@@ -82,8 +82,8 @@ fn first_slower(
 ) -> u64
     requires { ⌜ Laid (now v) t ⌝ }
     requires { ⌜ Sound (volumeOf (now v)) ⌝ }
-    requires { ⌜ Named (volumeOf (now v)) a b ⌝ }
-    requires { ⌜ Named (volumeOf (now v)) left right ⌝ }
+    requires { ⌜ Names (volumeOf (now v)) a b ⌝ }
+    requires { ⌜ Names (volumeOf (now v)) left right ⌝ }
     requires { ⌜ (from ≤ end) × (end ≤ volumeOf (now v) .period) ⌝ }
     ensures { λ r. ⌜ r ≡ firstFrom (notAfter (volumeOf (now (v .entry))) (named a b) (named left right)) from end ⌝ }
 {
@@ -121,7 +121,7 @@ fn first_late(v: &[u8], t: Tables, e: usize, left: usize, right: usize) -> u64
     requires { ⌜ Laid (now v) t ⌝ }
     requires { ⌜ Sound (volumeOf (now v)) ⌝ }
     requires { ⌜ e < volumeOf (now v) .edges ⌝ }
-    requires { ⌜ Named (volumeOf (now v)) left right ⌝ }
+    requires { ⌜ Names (volumeOf (now v)) left right ⌝ }
     ensures { λ r. ⌜ r ≡ firstLate (volumeOf (now (v .entry))) e (named left right) ⌝ }
 {
     let first = edge_first(v, t, e);
@@ -156,7 +156,7 @@ pub fn cover_of(
 ) -> Cover
     requires { ⌜ Ready (now v) t (now first) (now next) edges ⌝ }
     requires { ⌜ u < volumeOf (now v) .junctions ⌝ }
-    requires { ⌜ Named (volumeOf (now v)) left right ⌝ }
+    requires { ⌜ Names (volumeOf (now v)) left right ⌝ }
     ensures { λ r. ⌜ r ≡ coverOf (volumeOf (now (v .entry))) u w (named left right) ⌝ }
 {
     let e = find_edge(v, t, first, next, edges, u, w);

@@ -17,7 +17,7 @@ ghost use mathlib.Core.Path.{_≡_};
 ghost use Prim.Native.Nat.{_<_};
 ghost use Rattle.volume.specs.Format.{volumeOf, Laid, Counted, Few};
 ghost use Rattle.volume.specs.Sound.{Sound};
-ghost use Rattle.full.specs.Fault.{roadFault, pairFault, rightsFault, leftsFault, roadsFault, faultOf, verdictOf};
+ghost use Rattle.full.specs.Fault.{ofRoad, ofPair, roadFault, pairFault, rightsFault, leftsFault, roadsFault, faultOf, verdictOf};
 ghost use Rattle.full.specs.Turns.{Ready};
 
 pub mod cover;
@@ -33,7 +33,29 @@ pub enum Verdict {
     Refused(u32, u64),
 }
 
-// What is at fault with road k.
+// The fault of road k, by how the edges cover it.
+fn of_road(k: usize, c: Cover) -> Verdict
+    ensures { λ r. ⌜ r ≡ ofRoad k c ⌝ }
+{
+    match c {
+        Cover::Missing => Verdict::RoadMissing(k),
+        Cover::Late(x) => Verdict::RoadLate(k, x),
+        Cover::Fine => Verdict::Full,
+    }
+}
+
+// The fault of the edges l and r in turn, by how the edges cover them.
+fn of_pair(l: usize, r: usize, c: Cover) -> Verdict
+    ensures { λ a. ⌜ a ≡ ofPair l r c ⌝ }
+{
+    match c {
+        Cover::Missing => Verdict::PairMissing(l, r),
+        Cover::Late(x) => Verdict::PairLate(l, r, x),
+        Cover::Fine => Verdict::Full,
+    }
+}
+
+// The fault of road k.
 fn road_fault(v: &[u8], t: Tables, first: &[u16], next: &[u16], edges: usize, k: usize) -> Verdict
     requires { ⌜ Ready (now v) t (now first) (now next) edges ⌝ }
     requires { ⌜ k < volumeOf (now v) .roads ⌝ }
@@ -42,14 +64,10 @@ fn road_fault(v: &[u8], t: Tables, first: &[u16], next: &[u16], edges: usize, k:
     let u = road_from(v, t, k);
     let w = road_to(v, t, k);
     let c = cover_of(v, t, first, next, edges, u, w, k, EMPTY);
-    match c {
-        Cover::Missing => Verdict::RoadMissing(k),
-        Cover::Late(x) => Verdict::RoadLate(k, x),
-        Cover::Fine => Verdict::Full,
-    }
+    of_road(k, c)
 }
 
-// What is at fault with the edges l, from u to m, and r, which begins at m, in turn.
+// The fault of the edges l, from u to m, and r, which begins at m, in turn.
 fn pair_fault(
     v: &[u8],
     t: Tables,
@@ -75,11 +93,7 @@ fn pair_fault(
         return Verdict::Full;
     }
     let c = cover_of(v, t, first, next, edges, u, w, l, r);
-    match c {
-        Cover::Missing => Verdict::PairMissing(l, r),
-        Cover::Late(x) => Verdict::PairLate(l, r, x),
-        Cover::Fine => Verdict::Full,
-    }
+    of_pair(l, r, c)
 }
 
 // The first fault of edge l and an edge after it in turn.
@@ -162,7 +176,7 @@ fn fault_of(v: &[u8], t: Tables, c: Counts) -> Verdict
     lefts_fault(v, t, &first, &next, c.edges)
 }
 
-// Is the volume full? If not, the first fault; if it does not open, the refusal.
+// Is the volume full? If not, the first fault; if it does not open, the refusal. The answer is the one over every second.
 pub fn check(v: &[u8]) -> Verdict
     ensures { λ r. ⌜ r ≡ verdictOf (now (v .entry)) ⌝ }
 {

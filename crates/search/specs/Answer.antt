@@ -1,14 +1,13 @@
 -- What a search answers and what it leaves in the lent lists: document 01, "What comes back". Refusals stand in the document's order;
 -- between them stands the settling rule's answer, with the trail unfolded to roads. `Searched` is the contract of `search`. What it
 -- promises is in Promises.
-use Prim.Native.Nat.{ℕ, _*_, _^_, _≤_, _<_}
-use mathlib.Core.Path.{_≡_, refl, sym, _∙_}
+use Prim.Native.Nat.{ℕ, _*_, _^_}
+use mathlib.Core.Path.{_≡_}
 use mathlib.Core.Bool.{Bool, true}
-use mathlib.Core.List.{List, [], _∷_}
+use mathlib.Core.List.{List, [], _∷_, _++_}
 use lib.Dec.{ltb, leb}
 use lib.ListN.{length}
-use borrow.Author.Tests.{lt-ltb, le-leb, lt-leb}
-use Rattle.block.specs.Choose.{choose, choose-yes, choose-no, both, both-yes}
+use Rattle.block.specs.Choose.{choose, both}
 use Rattle.theory.specs.Settling as Rule
 use Rattle.theory.specs.Settling.{UpperEnd, none, at-most, no-way, closed, open-from, answer}
 use Rattle.volume.specs.Format.{Volume, volumeOf}
@@ -19,7 +18,6 @@ use Rattle.travel.specs.Written.{withRoads}
 use Rattle.settle.specs.Work.{cleared}
 use Rattle.settle.specs.declared.Upper.{Upper}
 use Rattle.settle.specs.declared.Upper.the-variants.{At, Missing}
-use Rattle.search.specs.Trail.{trailOf}
 use Rattle.search.specs.Path.{pathOf}
 use Rattle.search.specs.declared.Answer.{Answer}
 use Rattle.search.specs.declared.Answer.the-variants.{Closed, NoWay, Open, Refused}
@@ -50,31 +48,6 @@ told vol x room (closed a n es) =
     choose (leb roads room) (choose (fits a) (Closed a n roads) (Refused 10 0)) (Refused 9 roads)
 told vol x room (open-from l h n) = choose (both (fits l) (upperFits h)) (Open l (upperTold h) n) (Refused 10 0)
 
--- how each answer of the rule is told
-
-pub told-short : (vol : Volume) (x room a n k : ℕ) (es : List ℕ) → k ≡ length (pathOf vol es x) → room < k
-    → Refused 9 k ≡ told vol x room (closed a n es)
-unfolding told
-told-short vol x room a n k es e h = sym (rw (← e) (choose-no _ _ (lt-leb k room h)))
-
-pub told-closed : (vol : Volume) (x room a n k : ℕ) (es : List ℕ) → k ≡ length (pathOf vol es x) → k ≤ room → a < 2 ^ 64
-    → Closed a n k ≡ told vol x room (closed a n es)
-unfolding told
-told-closed vol x room a n k es e h f = sym (rw (← e) (choose-yes _ _ (le-leb k room h) ∙ choose-yes _ _ (lt-ltb a (2 ^ 64) f)))
-
-pub told-no-way : (vol : Volume) (x room n : ℕ) → NoWay n ≡ told vol x room (no-way n)
-unfolding told
-told-no-way vol x room n = refl
-
-pub told-open : (vol : Volume) (x room l n : ℕ) (h : UpperEnd) → l < 2 ^ 64 → upperFits h ≡ true
-    → Open l (upperTold h) n ≡ told vol x room (open-from l h n)
-unfolding told
-told-open vol x room l n h f g = sym (choose-yes _ _ (both-yes _ (lt-ltb l (2 ^ 64) f) ∙ g))
-
--- the rule has closed with arrival a after n units, and the labels in the work area w remember the trail
-abbrev pub closedBy : Volume → ℕ → ℕ → ℕ → ℕ → List ℕ → Rule.Answer
-closedBy vol from to a n w = closed a n (trailOf vol from to n w)
-
 -- the path of the rule's answer: the chain of edges unfolded, where it is closed
 abbrev pub pathTold : Volume → ℕ → Rule.Answer → List ℕ
 pathTold vol x (no-way n) = []
@@ -87,23 +60,24 @@ pathTold vol x (open-from l h n) = []
 abbrev pub ruled : Volume → ℕ → ℕ → ℕ → ℕ → Rule.Answer
 ruled vol from to x b = answer (networkOf vol) from to x b
 
-module _ (vol : Volume) (from to x b : ℕ) where
-  -- 7: start, then destination, not below N; 8: work area below 8N numbers; then the rule
-  unfoldable pub answerIn : ℕ → ℕ → Answer
-  answerIn space room =
-      choose (ltb from (vol .junctions))
-      (choose (ltb to (vol .junctions))
-      (choose (leb (8 * vol .junctions) space) (told vol x room (ruled vol from to x b)) (Refused 8 0))
-      (Refused 7 1))
-      (Refused 7 0)
+-- 7: start, then destination, not below N; 8: work area below 8N numbers; then the rule. The work area has `space` numbers, the path
+-- list room for `room` roads
+unfoldable pub answerIn : Volume → ℕ → ℕ → ℕ → ℕ → ℕ → ℕ → Answer
+answerIn vol from to x b space room =
+    choose (ltb from (vol .junctions))
+    (choose (ltb to (vol .junctions))
+    (choose (leb (8 * vol .junctions) space) (told vol x room (ruled vol from to x b)) (Refused 8 0))
+    (Refused 7 1))
+    (Refused 7 0)
 
 -- A search of any bytes
 
--- 1 to 6 as opening refuses them, and then the search of the open volume
+-- 1 to 6 as opening refuses them; else the answer r of the open volume
 abbrev pub afterOpening : Opening.Opening → Answer → Answer
 afterOpening (Opening.the-variants.Opened c) r = r
 afterOpening (Opening.the-variants.Refused number place) r = Refused number place
 
+-- the answer for the bytes v
 unfoldable pub answerOf : List ℕ → ℕ → ℕ → ℕ → ℕ → ℕ → ℕ → Answer
 answerOf v from to x b space room = afterOpening (openOf v) (answerIn (volumeOf v) from to x b space room)
 
@@ -131,19 +105,23 @@ pub record Searched (v : List ℕ) (from to x b : ℕ) (work path : List ℕ) (r
 
 -- The document's numbers
 
--- the document's number of an answer: 0, or the refusal's; and its values, in the document's order
+-- an answer on paper: the document's number, 0 where it is not refused, and the values in the document's order
+pub record Paper : Type 0 where
+  pub number : ℕ
+  pub values : List ℕ
+
+-- the upper end, if there is one
+abbrev pub upperValue : Upper → List ℕ
+upperValue (At a) = a ∷ []
+upperValue Missing = []
+
+-- closed gives arrival, units used and the number of roads; no way units used; open lower end, upper end and units used; a refusal its place
+abbrev pub paper : Answer → Paper
+paper (Closed arrival used roads) = record { number = 0; values = arrival ∷ used ∷ roads ∷ [] }
+paper (NoWay used) = record { number = 0; values = used ∷ [] }
+paper (Open lower upper used) = record { number = 0; values = lower ∷ (upperValue upper ++ (used ∷ [])) }
+paper (Refused number place) = record { number = number; values = place ∷ [] }
+
+-- the number of an answer, by which the promises tell refusals apart
 abbrev pub number : Answer → ℕ
-number (Closed a u k) = 0
-number (NoWay u) = 0
-number (Open l h u) = 0
-number (Refused n place) = n
-
-abbrev pub upperValues : Upper → List ℕ
-upperValues (At a) = a ∷ []
-upperValues Missing = []
-
-abbrev pub values : Answer → List ℕ
-values (Closed arrival used roads) = arrival ∷ used ∷ roads ∷ []
-values (NoWay used) = used ∷ []
-values (Open lower upper used) = lower ∷ used ∷ upperValues upper
-values (Refused n place) = place ∷ []
+number r = paper r .number

@@ -15,18 +15,14 @@ use Rattle.theory.specs.OneUnit.{Step, kept, settles, reached, hastened, settle
 use Rattle.theory.specs.Looks.{Sees, look-right}
 use Rattle.theory.specs.Windows.{IsAt}
 use Rattle.volume.specs.Format.{Volume}
-use Rattle.volume.specs.Rules.{longest, mostSpan}
 use Rattle.volume.specs.Sound.{Sound}
 use Rattle.travel.specs.Network.{networkOf}
 use Rattle.travel.specs.Halves.{edge-short}
+use Rattle.settle.specs.Units.{oneUnit}
 use Rattle.search.specs.Path.{pathOf}
 use Rattle.search.specs.Answer.{upperFits, told, pathTold, ruled, number}
 use Rattle.search.specs.declared.Answer.{Answer}
 use Rattle.search.specs.declared.Answer.the-variants.{Closed, Refused}
-
--- the most that one unit adds to an arrival: the longest duration for each road of the greatest span
-abbrev oneUnit : ℕ
-oneUnit = longest * mostSpan
 
 -- every arrival in the table is at most m
 abbrev By : Table → ℕ → Type 0
@@ -71,6 +67,7 @@ module _ (vol : Volume) (S : Sound vol) (u d : ℕ) (dn : d < vol .junctions) wh
   tests-by m n L (destination a) go h sees f = h (vol .junctions + d) a (waits-has (L (vol .junctions + d)) a (sees .0))
   tests-by m n L (next s a) go h sees f = f s a (sees .waits)
 
+  -- what is at most m is at most any later p
   by-more : (m p : ℕ) → m ≤ p → (q : Rule.Answer) → AnswerBy m q → AnswerBy p q
   by-more m p h (no-way n) f = tt
   by-more m p h (closed a n es) f = omega arith

@@ -39,12 +39,14 @@ pub record Driven (vol : Volume) (es : List ℕ) (x i y n : ℕ) : Type 0 where
   pub early : y ≤ x + i * (longest * mostSpan)
   pub few : n ≤ i * mostSpan
 
--- one chain after another
+-- One chain after another
 
+-- the second chain is driven from the arrival of the first
 drive-append : (M : Network) (es fs : List ℕ) (x : ℕ) → drive (Edges M) (es ++ fs) x ≡ drive (Edges M) fs (drive (Edges M) es x)
 drive-append M [] fs x = refl
 drive-append M (e ∷ es) fs x = drive-append M es fs (edge-arr M e x)
 
+-- and its roads stand after the first one's
 path-append : (M : Network) (es fs : List ℕ) (x : ℕ) → path-of M (es ++ fs) x ≡ path-of M es x ++ path-of M fs (drive (Edges M) es x)
 unfolding path-of
 path-append M [] fs x = refl
@@ -52,23 +54,24 @@ path-append M (e ∷ es) fs x =
     ap (λ (l : List ℕ). roads-of-edge M e x ++ l) (path-append M es fs (edge-arr M e x))
     ∙ sym (append-assoc (roads-of-edge M e x) (path-of M es (edge-arr M e x)) (path-of M fs (drive (Edges M) es (edge-arr M e x))))
 
+-- the path of one edge is its roads
 path-one : (M : Network) (e x : ℕ) → path-of M (e ∷ []) x ≡ roads-of-edge M e x
 unfolding path-of
 path-one M e x = append-nil _
 
--- at first
-
+-- no edge is driven, and the second is the departure
 pub drive-none : (vol : Volume) (es : List ℕ) (x : ℕ) → Driven vol es x 0 x 0
 unfolding path-of
 drive-none vol es x = record { arrives = refl; number = refl; early = omega arith; few = omega arith }
 
--- at last
+-- after the last edge the roads are those of the path
 pub drive-all : {vol : Volume} {es : List ℕ} {x i y n : ℕ} → Driven vol es x i y n → length es ≤ i → n ≡ length (pathOf vol es x)
 drive-all {vol} {es} {x} {i} D h = rw (take-all i es h) at (D .number)
 
--- edge e, the next one of the chain
+-- Edge e, the next one of the chain
 
 module _ {vol : Volume} (S : Sound vol) {es : List ℕ} {x i y n : ℕ} (C : Chain vol es x) (D : Driven vol es x i y n) (more : i < length es) (e : ℕ) (is : e ≡ getD es i 0) where
+  -- it is an edge
   there : e < vol .edges
   there = rw is (C .known i more)
 
@@ -76,6 +79,7 @@ module _ {vol : Volume} (S : Sound vol) {es : List ℕ} {x i y n : ℕ} (C : Cha
   pub drive-enters : Enters vol e y
   drive-enters = record { there = there; fits = omega (arith, D .early, C .few, C .early, S .edge e there .span) }
 
+  -- the chain up to it
   next-is : take (i + 1) es ≡ take i es ++ (e ∷ [])
   next-is = ap (λ (k : ℕ). take k es) (add-one i) ∙ take-suc es i 0 more ∙ ap (λ (k : ℕ). take i es ++ (k ∷ [])) (sym is)
 

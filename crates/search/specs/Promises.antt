@@ -1,6 +1,6 @@
 -- What the search promises, read first. `Searched` of Answer is the contract of the code, so each promise speaks of what `search` answers
 -- for the bytes v and leaves in the lists that it was lent. r is the answer, `number r` its number in the document: 0 where it is not
--- refused. `said r` is its window in the theory's words; M is the network that the bytes hold.
+-- refused. `said r` is its window in the theory's words; `network v` is the network that the bytes hold.
 use Prim.Native.Nat.{ℕ, _+_, _*_, _^_, _≤_, _<_}
 use mathlib.Core.Path.{_≡_, refl, ap, sym, _∙_}
 use mathlib.Core.List.{List}
@@ -22,11 +22,12 @@ use Rattle.volume.specs.declared.tables.Counts.{Counts}
 use Rattle.volume.specs.declared.Opening.the-variants.{Opened}
 use Rattle.travel.specs.Network.{networkOf, sound-network}
 use Rattle.settle.specs.Work.{cleared}
+use Rattle.settle.specs.Units.{Question}
 use Rattle.settle.specs.Outcome.{upperOf}
 use Rattle.settle.specs.declared.Upper.{Upper}
 use Rattle.search.specs.Path.{pathOf}
-use Rattle.search.specs.Answer.{pathTold, ruled, answerIn, afterOpening, answerOf, workAfter, pathAfter, Searched, number}
-use Rattle.search.specs.Asked.{Asked, early-keeps, in-rule}
+use Rattle.search.specs.Answer.{pathTold, ruled, answerOf, workAfter, pathAfter, Searched, number}
+use Rattle.search.specs.Steps.{early-keeps, rule-answers}
 use Rattle.search.specs.Clock.{answer-by, told-answers, told-never-late}
 use Rattle.search.specs.Tells.{said, Tells, plainly, bare, Given, Comes, ruled-so, refused-so, comes, given, tells-plainly, said-is, below-bare, bare-tops, finished-bare, bare-finished, used-bare, narrows-bare}
 use Rattle.search.specs.declared.Answer.{Answer}
@@ -82,10 +83,11 @@ module _ {v : List ℕ} {from to x b : ℕ} {work path : List ℕ} where
   pub refusal-keeps-path : {k place : ℕ} {w p : List ℕ} → Searched v from to x b work path (Refused k place) w p → p ≡ path
   refusal-keeps-path H = H .writes
 
-  -- and on one of 1 to 8 the work area too; after 9 its first 8N numbers are zero
+  -- and on one of 1 to 8 the work area too
   pub refusal-keeps-work : {k place : ℕ} {w p : List ℕ} → k ≤ 8 → Searched v from to x b work path (Refused k place) w p → w ≡ work
   refusal-keeps-work {k} {place} h H = H .clears ∙ sym (early-keeps k place (8 * volumeOf v .junctions) work h)
 
+  -- after 9 its first 8N numbers are zero
   pub refusal-clears-work : {k place : ℕ} {w p : List ℕ} → 9 ≤ k → Searched v from to x b work path (Refused k place) w p
       → w ≡ cleared work (8 * volumeOf v .junctions)
   refusal-clears-work {k} h H = H .clears ∙ choose-no _ _ (lt-leb k 8 h)
@@ -102,15 +104,14 @@ every-input-answered v from to x b work path = (
 
 -- a question that can be asked of a volume that opens, with room for the path, is answered: nothing is refused without its ground
 pub asked-is-answered : {v : List ℕ} {from to x b : ℕ} {work path w p : List ℕ} {r : Answer} {c : Counts} → openOf v ≡ Opened c
-    → Asked (volumeOf v) from to x b (length work) → length (pathTold (volumeOf v) x (ruled (volumeOf v) from to x b)) ≤ length path
+    → Question (volumeOf v) from to x b work → length (pathTold (volumeOf v) x (ruled (volumeOf v) from to x b)) ≤ length path
     → Searched v from to x b work path r w p → number r ≡ 0
-unfolding answerOf
 asked-is-answered {v} {from} {to} {x} {b} {work} {path} {w} {p} {r} {c} e A room H =
     let vol = volumeOf v in
-    let m = answer-by vol (opened v c e .sound) from to (A .to-in) x b in
-    ap number (H .answers ∙ ap (λ o. afterOpening o (answerIn vol from to x b (length work) (length path))) e
-    ∙ sym (in-rule vol from to x b (length work) (length path) (A .from-in) (A .to-in) (A .room)))
-    ∙ told-answers vol x (length path) _ (ruled vol from to x b) m (omega (arith, A .departs, A .budget)) room
+    let n = opened v c e .counted .junctions in
+    let m = answer-by vol (opened v c e .sound) from to (A .destined) x b in
+    ap number (H .answers ∙ sym (rule-answers v from to x b work path c e (omega (arith, A .start)) (omega (arith, A .destined)) (omega (arith, A .room))))
+    ∙ told-answers vol x (length path) _ (ruled vol from to x b) m (omega (arith, A .departs, A .budgeted)) room
 
 -- The path
 
@@ -137,9 +138,11 @@ module _ {v : List ℕ} {from to x b : ℕ} {work path w p : List ℕ} {r : Answ
   behind : Given (volumeOf v) from to x b (length path) r
   behind = given v from to x b (length work) (length path) r (H .answers) z
 
+  -- on a sound network
   sound : SoundNetwork (network v)
   sound = sound-network (volumeOf v) (behind .sound)
 
+  -- the window is the rule's
   window : said r ≡ bare (ruled (volumeOf v) from to x b)
   window = said-is (volumeOf v) x (length path) (ruled (volumeOf v) from to x b) r (behind .tells) z
 
@@ -182,6 +185,7 @@ widest : (q : Rule.Answer) → Narrows (open-from 0 none 0) q
 widest q = record { units = omega arith; lower = λ y h. omega arith; upper = λ y t. absurd t; stays = λ f. absurd f }
 
 module _ {v : List ℕ} {from to x b c : ℕ} {work path w p workMore pathMore u q : List ℕ} {r s : Answer} (H : Searched v from to x b work path r w p) (K : Searched v from to x c workMore pathMore s u q) (more : b ≤ c) (z : number s ≡ 0) where
+  -- the rule's own window
   rule-narrows : number r ≡ 0 → Narrows (ruled (volumeOf v) from to x b) (ruled (volumeOf v) from to x c)
   unfolding networkOf
   rule-narrows y = Theory.budget-narrows (network v) (sound H y) from to x (behind H y .from-in) (behind H y .to-in) b c more
@@ -234,8 +238,10 @@ module _ {v : List ℕ} (F : FullDay (network v)) {from to x b : ℕ} {work path
       let g = behind H refl in
       Theory.open-holds (network v) (sound H refl) F from to x (g .from-in) (g .to-in) b l n (upperOf h) (g .tells)
 
--- leaving later never closes earlier: whatever the later search has found, at any budget, is not below the earlier one's window
+-- Leaving later never closes earlier
+
 module _ {v : List ℕ} (F : FullDay (network v)) {from to x b y c : ℕ} {work path w p workLater pathLater u q : List ℕ} (later : x ≤ y) where
+  -- whatever the later search has found, at any budget, is not below the earlier one's window
   pub later-never-earlier : {r s : Answer} → Searched v from to x b work path r w p → Searched v from to y c workLater pathLater s u q
       → number r ≡ 0 → number s ≡ 0 → (t : ℕ) → Tops (said s) t → NotBelow (said r) t
   unfolding networkOf

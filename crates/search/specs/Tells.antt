@@ -24,7 +24,7 @@ use Rattle.settle.specs.declared.Upper.{Upper}
 use Rattle.settle.specs.declared.Upper.the-variants.{At, Missing}
 use Rattle.search.specs.Path.{pathOf}
 use Rattle.search.specs.Answer.{fits, upperFits, upperTold, told, pathTold, ruled, answerIn, afterOpening, answerOf, number}
-use Rattle.search.specs.Asked.{EarlyRefusal, opening-numbered}
+use Rattle.search.specs.Steps.{EarlyRefusal, opening-numbered}
 use Rattle.search.specs.declared.Answer.{Answer}
 use Rattle.search.specs.declared.Answer.the-variants.{Closed, NoWay, Open, Refused}
 
@@ -42,6 +42,7 @@ Tells vol x room q (NoWay n) = q ≡ no-way n
 Tells vol x room q (Open l h n) = q ≡ open-from l (upperOf h) n
 Tells vol x room q (Refused k place) = (9 ≤ k) × (k ≤ 10) × (k ≡ 9 → (place ≡ length (pathTold vol x q)) × (room < place))
 
+-- what is told of the rule's answer tells it
 pub told-tells : (vol : Volume) (x room : ℕ) (q : Rule.Answer) → Tells vol x room q (told vol x room q)
 unfolding told choose
 told-tells vol x room (no-way n) = refl
@@ -79,6 +80,7 @@ pub data Comes (vol : Volume) (from to x b room : ℕ) (r : Answer) : Type 0 whe
   refused-so : 1 ≤ number r → number r ≤ 8 → Comes vol from to x b room r
 
 module _ (vol : Volume) (from to x b space room : ℕ) where
+  -- in an open volume
   comes-in : Sound vol → Comes vol from to x b room (answerIn vol from to x b space room)
   unfolding answerIn choose
   comes-in S = go (ltb from (vol .junctions)) (ltb-true from (vol .junctions)) (ltb to (vol .junctions)) (ltb-true to (vol .junctions)) (leb (8 * vol .junctions) space)
@@ -90,6 +92,7 @@ module _ (vol : Volume) (from to x b space room : ℕ) where
       go true f false t w = refused-so (omega arith) (omega arith)
       go false f g t w = refused-so (omega arith) (omega arith)
 
+-- and from any bytes
 pub comes : (v : List ℕ) (from to x b space room : ℕ) → Comes (volumeOf v) from to x b room (answerOf v from to x b space room)
 unfolding answerOf
 comes v from to x b space room = go (openOf v) (opened v) (opening-numbered v)
@@ -116,6 +119,7 @@ plainly vol x (no-way n) = NoWay n
 plainly vol x (closed a n es) = Closed a n (length (pathOf vol es x))
 plainly vol x (open-from l h n) = Open l (upperTold h) n
 
+-- an answer that is not refused is no other
 pub tells-plainly : (vol : Volume) (x room : ℕ) (q : Rule.Answer) (r : Answer) → Tells vol x room q r → number r ≡ 0 → r ≡ plainly vol x q
 tells-plainly vol x room q (Closed a n k) (es, e, c, f) z = ap (Closed a n) c ∙ ap (plainly vol x) (sym e)
 tells-plainly vol x room q (NoWay n) e z = ap (plainly vol x) (sym e)
@@ -143,36 +147,43 @@ said-is vol x room q (Refused k place) e z = absurd (omega arith)
 
 -- and has the same window
 
+-- what is not below it stays so without the trail
 pub below-bare : (q : Rule.Answer) (y : ℕ) → NotBelow q y → NotBelow (bare q) y
 below-bare (no-way n) y h = h
 below-bare (closed a n es) y h = h
 below-bare (open-from l u n) y h = h
 
+-- and with it
 bare-below : (q : Rule.Answer) (y : ℕ) → NotBelow (bare q) y → NotBelow q y
 bare-below (no-way n) y h = h
 bare-below (closed a n es) y h = h
 bare-below (open-from l u n) y h = h
 
+-- its upper end is the same without the trail
 tops-bare : (q : Rule.Answer) (y : ℕ) → Tops q y → Tops (bare q) y
 tops-bare (no-way n) y h = h
 tops-bare (closed a n es) y h = h
 tops-bare (open-from l u n) y h = h
 
+-- and with it
 pub bare-tops : (q : Rule.Answer) (y : ℕ) → Tops (bare q) y → Tops q y
 bare-tops (no-way n) y h = h
 bare-tops (closed a n es) y h = h
 bare-tops (open-from l u n) y h = h
 
+-- what is finished is so without the trail
 pub finished-bare : (q : Rule.Answer) → Finished q → Finished (bare q)
 finished-bare (no-way n) f = f
 finished-bare (closed a n es) f = f
 finished-bare (open-from l u n) f = f
 
+-- and with it
 pub bare-finished : (q : Rule.Answer) → Finished (bare q) → Finished q
 bare-finished (no-way n) f = f
 bare-finished (closed a n es) f = f
 bare-finished (open-from l u n) f = f
 
+-- the units are the same
 pub used-bare : (q : Rule.Answer) → used (bare q) ≡ used q
 used-bare (no-way n) = refl
 used-bare (closed a n es) = refl

@@ -43,12 +43,14 @@ pub part-is : {vol : Volume} {from to used : ℕ} {w trail : List ℕ} {r : ℕ}
 part-is {vol} {from} {to} {used} {w} {trail} {r} T n h =
     take-all (n - r) (drop r trail) (let l = length-drop r trail in omega arith) ∙ T .edges
 
--- the arc of a label, as it stands in the work area: none where the kind is nothing
+-- The arc of a label, as it stands in the work area
 
+-- a state with no label has arc 0
 pub arc-none : (S : ℕ) (w : List ℕ) (s : ℕ) → s < S → getD w (4 * s) 0 ≡ 0 → 0 ≡ arc-of (labels S w s)
 unfolding labels
 arc-none S w s h e = rw (lt-ltb s S h, e)
 
+-- any other has the arc that stands there
 pub arc-some : (S : ℕ) (w : List ℕ) (s : ℕ) → s < S → getD w (4 * s) 0 ≢ 0 → getD w (4 * s + 2) 0 ≡ arc-of (labels S w s)
 unfolding labels
 arc-some S w s h n = rw (lt-ltb s S h) (go (getD w (4 * s) 0) n)
@@ -58,22 +60,26 @@ arc-some S w s h n = rw (lt-ltb s S h) (go (getD w (4 * s) 0) n)
     go (suc zero) n = refl
     go (suc (suc k)) n = refl
 
--- came-from, by its cases
+-- The state before, by the cases of the code
 
 module _ (vol : Volume) (n s : ℕ) (number : n ≡ vol .junctions) where
+  -- the turn, from the same junction climbing
   pub turned : n ≤ s → s - n ≡ cameFrom vol s 0
   unfolding networkOf
   turned h = omega arith
 
+  -- a climbing state is reached by no turn; the rule says 0
   pub turned-low : s < n → 0 ≡ cameFrom vol s 0
   unfolding networkOf
   turned-low h = omega arith
 
   module _ (k e u : ℕ) (is : k ≡ suc e) (start : u ≡ vol .edge-from e) where
+    -- an edge to a climbing state, from its start climbing
     pub climbed : s < n → u ≡ cameFrom vol s k
     unfolding networkOf
     climbed h = rw (is, lt-ltb s (vol .junctions) (omega arith)) start
 
+    -- an edge to a descending state, from its start descending
     pub descended : n ≤ s → n + u ≡ cameFrom vol s k
     unfolding networkOf
     descended h = rw (is, le-ltb s (vol .junctions) (omega arith)) (ap₂ _+_ number start)
@@ -111,7 +117,7 @@ walk-begins vol n from to used w trail W h =
     }
 
 module _ {vol : Volume} {from to used : ℕ} {w : List ℕ} {left s at : ℕ} {trail : List ℕ} (H : Walked vol from to used w left s at trail) where
-  -- it ends at the start, or where no arc is left
+  -- it ends at the start
   pub walk-home : s ≡ from → Trailed vol from to used w trail at
   unfolding trail-back
   walk-home e = record { inside = H .inside; edges = go left (H .rest) }
@@ -121,23 +127,28 @@ module _ {vol : Volume} {from to used : ℕ} {w : List ℕ} {left s at : ℕ} {t
       go zero r = r
       go (suc l) r = rw (eq-eqb s from e) at r
 
+  -- or where no arc is left
   pub walk-over : left ≡ 0 → Trailed vol from to used w trail at
   unfolding trail-back
   walk-over e = record { inside = H .inside; edges = rw e at (H .rest) }
 
-  -- the arc of the state's label is the turn or an edge
+  -- k is the arc of the state's label
   module _ (n k : ℕ) (W : Walkable vol n to w) (arc : k ≡ arc-of (labels (n + n) w s)) where
+    -- said with the volume's own number of junctions
     is-arc : k ≡ arc-of (labels (vol .junctions + vol .junctions) w s)
     is-arc = rw (W .number) at arc
 
+    -- which the labels hold to be the turn or an edge
     pub arc-known : k ≤ vol .edges
     arc-known = rw is-arc (W .arcs s (H .here))
 
   -- one arc k back, to state p
   module _ (S : Sound vol) (n k p : ℕ) (W : Walkable vol n to w) (arc : k ≡ arc-of (labels (n + n) w s)) (back : p ≡ cameFrom vol s k) (some : 0 < left) (away : s ≢ from) where
+    -- p is a state
     there : p < vol .junctions + vol .junctions
     there = rw back (came-in vol S s k (H .here) (arc-known n k W arc))
 
+    -- the way back goes on from p with the edges of arc k before the others
     step : trail-back (web (networkOf vol) to) from (left - 1) (labels (vol .junctions + vol .junctions) w) p (edges-by (networkOf vol) to k ++ drop at trail)
         ≡ trailOf vol from to used w
     unfolding trail-back

@@ -13,15 +13,16 @@ use volume::tables::Counts;
 use volume::tables::Tables;
 use volume::tables::tables_of;
 ghost use mathlib.Core.Path.{_≡_};
-ghost use Prim.Native.Nat.{_*_, _^_, _≤_, _<_};
-ghost use lib.ListN.{length, drop};
+ghost use Prim.Native.Nat.{_^_, _≤_, _<_};
 ghost use Rattle.volume.specs.Format.{volumeOf, Laid};
+ghost use Rattle.volume.specs.Open.{openOf};
 ghost use Rattle.volume.specs.Opened.{OpenVolume};
 ghost use Rattle.volume.specs.Sound.{Sound};
+ghost use Rattle.settle.specs.Units.{Question};
 ghost use Rattle.search.specs.Trail.{Walkable, trailOf};
-ghost use Rattle.search.specs.Path.{Chain, pathOf};
-ghost use Rattle.search.specs.Answer.{told, ruled, closedBy, pathTold, answerIn, workAfter, pathAfter, Searched};
-ghost use Rattle.search.specs.Asked.{Asked};
+ghost use Rattle.search.specs.Path.{Chain};
+ghost use Rattle.search.specs.Answer.{Searched};
+ghost use Rattle.search.specs.Steps.{closedBy, Reported, Applied};
 
 pub mod path;
 pub mod trail;
@@ -51,8 +52,7 @@ fn close(
     requires { ⌜ Sound (volumeOf (now v)) ⌝ }
     requires { ⌜ Walkable (volumeOf (now v)) n to (now work) ⌝ }
     requires { ⌜ (used ≤ 2048) × Chain (volumeOf (now v)) (trailOf (volumeOf (now v)) from to used (now work)) x ⌝ }
-    ensures { λ r. ⌜ r ≡ told (volumeOf (now (v .entry))) x (length (now (path .entry))) (closedBy (volumeOf (now (v .entry))) from to arrival used (now (work .entry))) ⌝ }
-    ensures { λ r. ⌜ now (path .exit) ≡ pathAfter r (pathOf (volumeOf (now (v .entry))) (trailOf (volumeOf (now (v .entry))) from to used (now (work .entry))) x) (now (path .entry)) ⌝ }
+    ensures { λ r. ⌜ Reported (volumeOf (now (v .entry))) x (closedBy (volumeOf (now (v .entry))) from to arrival used (now (work .entry))) (now (path .entry)) r (now (path .exit)) ⌝ }
 {
     let mut trail = [0u16; 2048];
     let at = walk_back(v, t, n, from, to, used, work, &mut trail);
@@ -76,10 +76,8 @@ fn apply_rule(
     path: &mut [u32],
 ) -> Answer
     requires { ⌜ OpenVolume (now v) c ⌝ }
-    requires { ⌜ Asked (volumeOf (now v)) from to x budget (length (now work)) ⌝ }
-    ensures { λ r. ⌜ r ≡ told (volumeOf (now (v .entry))) x (length (now (path .entry))) (ruled (volumeOf (now (v .entry))) from to x budget) ⌝ }
-    ensures { λ r. ⌜ drop (8 * volumeOf (now (v .entry)) .junctions) (now (work .exit)) ≡ drop (8 * volumeOf (now (v .entry)) .junctions) (now (work .entry)) ⌝ }
-    ensures { λ r. ⌜ now (path .exit) ≡ pathAfter r (pathTold (volumeOf (now (v .entry))) x (ruled (volumeOf (now (v .entry))) from to x budget)) (now (path .entry)) ⌝ }
+    requires { ⌜ Question (volumeOf (now v)) from to x budget (now work) ⌝ }
+    ensures { λ r. ⌜ Applied (volumeOf (now (v .entry))) from to x budget (now (work .entry)) (now (path .entry)) r (now (work .exit)) (now (path .exit)) ⌝ }
 {
     let n = c.junctions;
     let t = tables_of(c);
@@ -113,11 +111,9 @@ fn search_open(
     work: &mut [u64],
     path: &mut [u32],
 ) -> Answer
-    requires { ⌜ OpenVolume (now v) c ⌝ }
+    requires { ⌜ openOf (now v) ≡ Opening.Opened c ⌝ }
     requires { ⌜ (x < 2 ^ 32) × (budget < 2 ^ 32) ⌝ }
-    ensures { λ r. ⌜ r ≡ answerIn (volumeOf (now (v .entry))) from to x budget (length (now (work .entry))) (length (now (path .entry))) ⌝ }
-    ensures { λ r. ⌜ now (work .exit) ≡ workAfter r (8 * volumeOf (now (v .entry)) .junctions) (now (work .entry)) ⌝ }
-    ensures { λ r. ⌜ now (path .exit) ≡ pathAfter r (pathTold (volumeOf (now (v .entry))) x (ruled (volumeOf (now (v .entry))) from to x budget)) (now (path .entry)) ⌝ }
+    ensures { λ r. ⌜ Searched (now (v .entry)) from to x budget (now (work .entry)) (now (path .entry)) r (now (work .exit)) (now (path .exit)) ⌝ }
 {
     let n = c.junctions;
     if n <= from {

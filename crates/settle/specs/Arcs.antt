@@ -37,10 +37,12 @@ statesOf vol = vol .junctions + vol .junctions
 unfoldable pub placeOf : ℕ → ℕ → ℕ
 placeOf n s = choose (ltb s n) s (s - n)
 
+-- a climbing state stands at the junction of its own number
 pub place-climbing : (n s : ℕ) → s < n → placeOf n s ≡ s
 unfolding placeOf
 place-climbing n s h = choose-yes s (s - n) (lt-ltb s n h)
 
+-- a descending one N below it
 pub place-descending : (n s : ℕ) → n ≤ s → placeOf n s ≡ s - n
 unfolding placeOf
 place-descending n s h = choose-no s (s - n) (le-ltb s n h)
@@ -77,15 +79,17 @@ abbrev pub LeadsBelow : ℕ → Lead → Type 0
 LeadsBelow S (To w) = w < S
 LeadsBelow S Nowhere = Unit {0}
 
+-- so the state that it names is
 pub lead-below : (S w : ℕ) (r : Lead) → r ≡ To w → LeadsBelow S r → w < S
 lead-below S w r e h = rw e at h
 
--- what a lead says
+-- a lead to w: the arc is offered, and leads there
 pub leads-on : (W : Web) (s k w : ℕ) → To w ≡ leadOf W s k → (W .leaves s k ≡ true) × (W .to s k ≡ w)
 leads-on W s k w e =
     let f = choose-first (W .leaves s k) (To (W .to s k)) Nowhere (To w) (sym e) (λ q. let z : _≡_ {A = ℕ} 0 1 = cc in omega arith) in
     (f .0, let q = f .1 in cc)
 
+-- no lead: the arc is not offered
 pub leads-nowhere : (W : Web) (s k : ℕ) → Nowhere ≡ leadOf W s k → W .leaves s k ≡ false
 leads-nowhere W s k e = go (W .leaves s k) refl
   where
@@ -105,32 +109,36 @@ module _ (vol : Volume) (d : ℕ) where
   unfolding networkOf
   leaves-down s e h f = rw (le-ltb s (vol .junctions) h, eq-eqb (vol .junctions + vol .edge-from e) s (omega arith))
 
-  -- where they lead
+  -- a climbing state is led to the edge's end, climbing
   leads-up : (s e : ℕ) → s < vol .junctions → leads-to (networkOf vol) d s (suc e) ≡ vol .edge-to e
   unfolding networkOf
   leads-up s e h = rw (lt-ltb s (vol .junctions) h)
 
+  -- a descending one to the edge's end, descending
   leads-down : (s e : ℕ) → vol .junctions ≤ s → leads-to (networkOf vol) d s (suc e) ≡ vol .junctions + vol .edge-to e
   unfolding networkOf
   leads-down s e h = rw (le-ltb s (vol .junctions) h)
 
   module _ (n s e w : ℕ) (count : n ≡ vol .junctions) (begins : vol .edge-from e ≡ placeOf n s) (ends : w ≡ vol .edge-to e) where
+    -- the edge begins at the junction of a climbing state
     up : s < n → vol .edge-from e ≡ s
     up h = begins ∙ place-climbing n s h
 
+    -- and of a descending one
     down : n ≤ s → vol .edge-from e ≡ s - vol .junctions
     down h = begins ∙ place-descending n s h ∙ ap (λ (m : ℕ). s - m) count
 
-    -- up
+    -- climbing, to higher rank
     pub lead-up : s < n → s < w → To w ≡ leadOf (webOf vol d) s (suc e)
     lead-up h l =
         ap To (ends ∙ sym (leads-up s e (omega arith)))
         ∙ sym (choose-yes _ _ (leaves-up s e (omega arith) (up h) ∙ lt-ltb s (vol .edge-to e) (omega arith)))
 
+    -- climbing, to lower rank
     pub lead-not-up : s < n → w ≤ s → Nowhere ≡ leadOf (webOf vol d) s (suc e)
     lead-not-up h l = sym (choose-no _ _ (leaves-up s e (omega arith) (up h) ∙ le-ltb s (vol .edge-to e) (omega arith)))
 
-    -- down
+    -- descending, to a lower marked junction
     pub lead-down : n ≤ s → w < s - n → marked (networkOf vol) d w ≡ true → To (n + w) ≡ leadOf (webOf vol d) s (suc e)
     lead-down h l m =
         let f = down h in
@@ -139,11 +147,13 @@ module _ (vol : Volume) (d : ℕ) where
         (leaves-down s e (omega arith) f
         ∙ rw (lt-ltb (vol .edge-to e) (vol .edge-from e) (omega arith)) (sym (ap (marked (networkOf vol) d) ends) ∙ m)))
 
+    -- descending, to higher rank
     pub lead-not-down : n ≤ s → s - n ≤ w → Nowhere ≡ leadOf (webOf vol d) s (suc e)
     lead-not-down h l =
         let f = down h in
         sym (choose-no _ _ (leaves-down s e (omega arith) f ∙ rw (le-ltb (vol .edge-to e) (vol .edge-from e) (omega arith))))
 
+    -- descending, to a junction that is not marked
     pub lead-unmarked : n ≤ s → w < s - n → marked (networkOf vol) d w ≡ false → Nowhere ≡ leadOf (webOf vol d) s (suc e)
     lead-unmarked h l m =
         let f = down h in
@@ -185,6 +195,7 @@ module _ (W : Web) (S s a k : ℕ) (w : List ℕ) where
       holds-as S w w (labels S w) (offer W s a k (labels S w)) (sym (offer-skips W s a k (labels S w) (leads-nowhere W s k e))) (holds-same S w)
 
   module _ (to : ℕ) (e : To to ≡ leadOf W s k) (inside : to < S) where
+    -- the rule's offer, as a put at the state that the lead names
     is-offer : (b : ℕ) → W .arr k a ≡ b → offer W s a k (labels S w) ≡ put (labels S w) to (offered (labels S w to) b k)
     is-offer b q =
         let f = leads-on W s k to e in

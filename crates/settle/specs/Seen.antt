@@ -84,6 +84,7 @@ least-more S w t p q h i e =
 -- What is seen, where d is the destination's state
 
 module _ (S : ℕ) (w : List ℕ) (d : ℕ) (h : d < S) where
+  -- the view, by the destination's kind
   view-at : (kind s a : ℕ) → getD w (4 * d) 0 ≡ kind
       → view-of (labels S w d) (picked s a) ≡ view-of (label-of kind (getD w (4 * d + 1) 0) (getD w (4 * d + 2) 0)) (picked s a)
   view-at kind s a e =

@@ -37,16 +37,19 @@ Modest b E nothing = Unit {0}
 Modest b E (waiting a k) = (a ≤ b) × (k ≤ E)
 Modest b E (settled a k) = (a ≤ b) × (k ≤ E)
 
+-- so its arc is
 modest-arc : (b E : ℕ) (l : Label) → Modest b E l → arc-of l ≤ E
 modest-arc b E nothing h = omega arith
 modest-arc b E (waiting a k) h = h .1
 modest-arc b E (settled a k) h = h .1
 
+-- so is the arrival with which it waits
 modest-waits : (b E a : ℕ) (l : Label) → Modest b E l → Waits l a → a ≤ b
 modest-waits b E a nothing h w = absurd w
 modest-waits b E a (waiting c k) h w = omega (arith, h .0)
 modest-waits b E a (settled c k) h w = absurd w
 
+-- and the upper end that it gives
 modest-upper : (b E : ℕ) (l : Label) (h : Upper) → b < 2 ^ 62 → Modest b E l → upperOf h ≡ upper-end l → UpperFits h
 modest-upper b E nothing (At a) lt m e = absurd (let z : _≡_ {A = ℕ} 0 1 = cc in omega arith)
 modest-upper b E (waiting c k) (At a) lt m e = let q : a ≡ c = cc in omega (arith, m .0)
@@ -60,6 +63,7 @@ module _ (vol : Volume) (S : Sound vol) (d : ℕ) where
   arc-adds zero a h = omega arith
   arc-adds (suc e) a h = let l : e < vol .edges = omega arith in omega (arith, edge-short vol S e a l, S .edge e l .span)
 
+  -- an arc is the turn or an edge
   arc-edge : (k : ℕ) → k < webOf vol d .arcs → k ≤ vol .edges
   unfolding networkOf
   arc-edge k h = omega arith
@@ -146,6 +150,7 @@ module _ (vol : Volume) (S : Sound vol) (u d x b : ℕ) (w₀ : List ℕ) (n : �
     unfolding networkOf
     look-of v e = look-is (webOf vol d) (vol .junctions + d) L ∙ sym e
 
+    -- and what is seen is so
     sees : (v : View) → v ≡ seenIn vol d w → Sees (webOf vol d) (vol .junctions + d) L v
     unfolding networkOf
     sees v e = rw (look-of v e) at (look-right (webOf vol d) (vol .junctions + d) L (omega arith))
@@ -154,22 +159,27 @@ module _ (vol : Volume) (S : Sound vol) (u d x b : ℕ) (w₀ : List ℕ) (n : �
     bounded : x + n * oneUnit < 2 ^ 62
     bounded = omega (arith, O .within)
 
+    -- so what waits does
     waits-fits : (t a : ℕ) → Waits (L t) a → a < 2 ^ 62
     waits-fits t a h = omega (arith, modest-waits (x + n * oneUnit) (vol .edges) a (L t) (O .modest t) h, bounded)
 
     -- a state is to be settled
 
     module _ (s a : ℕ) (e : next s a ≡ seenIn vol d w) where
+      -- it waits with the least arrival, and the destination does not
       chosen : Next (webOf vol d) (vol .junctions + d) L s a
       chosen = sees (next s a) e
 
+      -- it is a state
       pub next-inside : s < statesOf vol
       unfolding networkOf
       next-inside = chosen .inside
 
+      -- it waits with that arrival
       pub next-waits : Waits (labels (statesOf vol) w s) a
       next-waits = chosen .waits
 
+      -- which fits
       pub next-fits : a < 2 ^ 62
       next-fits = waits-fits s a next-waits
 
@@ -201,6 +211,7 @@ module _ (vol : Volume) (S : Sound vol) (u d x b : ℕ) (w₀ : List ℕ) (n : �
     -- an end, where e is the work area as the run found it
 
     module _ (e : List ℕ) (tail : drop (4 * statesOf vol) w₀ ≡ drop (4 * statesOf vol) e) (size : length w₀ ≡ length e) where
+      -- what every end shares
       ran : (r : Outcome) → Ends vol u d x b w r → OutcomeFits r → Ran vol u d x b e w r
       ran r ends fits = record {
         ends = ends;

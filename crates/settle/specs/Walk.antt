@@ -61,28 +61,33 @@ unfoldable pub turned : List ℕ → ℕ → ℕ → ℕ → List ℕ → List �
 turned marks n s a w = choose (ltb s n) (choose (eqb (getD marks s 0) 1) (offerTo w (n + s) a 0) w) w
 
 module _ (marks : List ℕ) (n s a : ℕ) (w : List ℕ) where
+  -- a climbing state that is marked
   pub turn-made : s < n → getD marks s 0 ≡ 1 → offerTo w (n + s) a 0 ≡ turned marks n s a w
   unfolding turned
   turn-made h m = sym (choose-yes _ _ (lt-ltb s n h) ∙ choose-yes _ _ (eq-eqb (getD marks s 0) 1 m))
 
+  -- one that is not marked
   pub turn-unmarked : s < n → getD marks s 0 ≢ 1 → w ≡ turned marks n s a w
   unfolding turned
   turn-unmarked h m = sym (choose-yes _ _ (lt-ltb s n h) ∙ choose-no _ _ (ne-eqb (getD marks s 0) 1 m))
 
+  -- a descending state
   pub turn-none : n ≤ s → w ≡ turned marks n s a w
   unfolding turned
   turn-none h = sym (choose-no _ _ (le-ltb s n h))
 
 module _ (vol : Volume) (d s a : ℕ) where
-  -- the turn is arc 0
+  -- the turn is arc 0: a marked climbing state offers it
   turn-lead : s < vol .junctions → marked (networkOf vol) d s ≡ true → To (vol .junctions + s) ≡ leadOf (webOf vol d) s 0
   unfolding networkOf
   turn-lead h m = sym (choose-yes _ _ (rw (lt-ltb s (vol .junctions) h) m))
 
+  -- one that is not marked does not
   turn-nowhere : s < vol .junctions → marked (networkOf vol) d s ≡ false → Nowhere ≡ leadOf (webOf vol d) s 0
   unfolding networkOf
   turn-nowhere h m = sym (choose-no _ _ (rw (lt-ltb s (vol .junctions) h) m))
 
+  -- nor does a descending one
   turn-descending : vol .junctions ≤ s → Nowhere ≡ leadOf (webOf vol d) s 0
   unfolding networkOf
   turn-descending h = sym (choose-no _ _ (rw (le-ltb s (vol .junctions) h)))

@@ -97,32 +97,37 @@ abbrev pub store : List ℕ → ℕ → ℕ → ℕ → ℕ → List ℕ
 store w s kind a k = set (set (set w (4 * s) kind) (4 * s + 1) a) (4 * s + 2) k
 
 module _ (w : List ℕ) (s kind a k : ℕ) (l : 4 * s + 4 ≤ length w) where
+  -- the kind that is read there
   at-kind : getD (store w s kind a k) (4 * s) 0 ≡ kind
   at-kind =
       getD-set-other (set (set w (4 * s) kind) (4 * s + 1) a) (4 * s + 2) (4 * s) k 0 (omega arith)
       ∙ getD-set-other (set w (4 * s) kind) (4 * s + 1) (4 * s) a 0 (omega arith)
       ∙ getD-set-same w (4 * s) kind 0 (omega arith)
 
+  -- the arrival
   at-arrival : getD (store w s kind a k) (4 * s + 1) 0 ≡ a
   at-arrival =
       getD-set-other (set (set w (4 * s) kind) (4 * s + 1) a) (4 * s + 2) (4 * s + 1) k 0 (omega arith)
       ∙ getD-set-same (set w (4 * s) kind) (4 * s + 1) a 0 (omega (arith, length-set w (4 * s) kind))
 
+  -- the arc
   at-arc : getD (store w s kind a k) (4 * s + 2) 0 ≡ k
   at-arc =
       getD-set-same (set (set w (4 * s) kind) (4 * s + 1) a) (4 * s + 2) k 0
       (omega (arith, length-set w (4 * s) kind, length-set (set w (4 * s) kind) (4 * s + 1) a))
 
+  -- every other place is as it was
   elsewhere : (j : ℕ) → j ≢ 4 * s → j ≢ 4 * s + 1 → j ≢ 4 * s + 2 → getD (store w s kind a k) j 0 ≡ getD w j 0
   elsewhere j n₀ n₁ n₂ =
       getD-set-other (set (set w (4 * s) kind) (4 * s + 1) a) (4 * s + 2) j k 0 n₂
       ∙ getD-set-other (set w (4 * s) kind) (4 * s + 1) j a 0 n₁
       ∙ getD-set-other w (4 * s) j kind 0 n₀
 
-  -- the label that is read at a state that is stored, and at any other
+  -- the label that is read at the state that is stored
   label-same : label-at (store w s kind a k) s ≡ label-of kind a k
   label-same = rw (at-kind, at-arrival, at-arc)
 
+  -- and at any other
   label-other : (t : ℕ) → t ≢ s → label-at (store w s kind a k) t ≡ label-at w t
   label-other t ne =
       rw (
@@ -152,6 +157,7 @@ labels-store S w s kind a k h l = fun-ext (λ t. go t (ℕ-discrete t s) (decLt 
         ∙ sym (labels-out S w t (omega arith))
         ∙ sym (put-other (labels S w) s (label-of kind a k) t ne)
 
+-- and leaves what stands after the states
 pub holds-store : (S : ℕ) (w : List ℕ) (s kind a k : ℕ) → s < S → 4 * S ≤ length w
     → Holds S w (store w s kind a k) (put (labels S w) s (label-of kind a k))
 holds-store S w s kind a k h l = record {

@@ -30,7 +30,7 @@ pub greatest-next : (vol : Volume) (p n : ℕ) → greatestSpan vol p (n + 1) �
 unfolding greatestSpan
 greatest-next vol p n = ap (greatestSpan vol p) (add-one n)
 
--- the walk over earlier edges with the same start meets one with the same end, or none
+-- an earlier edge has the same two ends, or none has
 
 pub new-found : (vol : Volume) (e d from to : ℕ) → from ≡ vol .edge-from e → to ≡ vol .edge-to e → d < e → vol .edge-from d ≡ from
     → vol .edge-to d ≡ to → newEnds vol e ≡ false
@@ -149,3 +149,12 @@ pub span-rule : (vol : Volume) (e s g : ℕ) → s ≡ vol .edge-span e → g �
     → spanRule vol e ≡ both (eqb s g) (leb s mostSpan)
 unfolding spanRule
 span-rule vol e s g a b = (cc)
+
+-- an edge whose ends an earlier one has is at fault, whatever else it is
+pub edge-repeats : (vol : Volume) (e : ℕ) → newEnds vol e ≡ false → edgeRule vol e ≡ false
+unfolding edgeRule
+edge-repeats vol e q = go (endsFit (vol .junctions) (vol .edge-from e) (vol .edge-to e)) refl
+  where
+    go : (t : Bool) → endsFit (vol .junctions) (vol .edge-from e) (vol .edge-to e) ≡ t → edgeRule vol e ≡ false
+    go true h = both-yes _ h ∙ both-no _ q
+    go false h = both-no _ h

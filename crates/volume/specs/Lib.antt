@@ -8,3 +8,4 @@ pub mod EdgeSteps
 pub mod OpenSteps
 pub mod Opened
 pub mod Index
+pub mod Repeats

@@ -20,10 +20,10 @@ ghost use mathlib.Core.Path.{_≡_};
 ghost use Prim.Native.Nat.{ℕ, _+_, _-_, _^_, _≤_, _<_, max};
 ghost use mathlib.Core.List.{List};
 ghost use Rattle.volume.specs.Format.{volumeOf, Counted, Laid, day};
-ghost use Rattle.volume.specs.Rules.{begins, newEnds, roadJoins, pairJoins, startFits, edgeRule};
+ghost use Rattle.volume.specs.Rules.{begins, roadJoins, pairJoins, startFits, edgeRule};
 ghost use Rattle.volume.specs.EdgeSteps.{pieceFit, piecesFit};
 ghost use Rattle.volume.specs.Passes.{edgesPass};
-ghost use Rattle.volume.specs.Index.{Linked};
+ghost use Rattle.volume.specs.Repeats.{Fresh, FirstRepeat};
 
 const MOST_SPAN: usize = 4096;
 
@@ -31,32 +31,6 @@ const MOST_SPAN: usize = 4096;
 pub enum Fit {
     Span(usize),
     Fault,
-}
-
-// Has no edge before e the same two ends? Only edges with the same start are looked at.
-fn new_ends(
-    v: &[u8],
-    t: Tables,
-    first: &[u16],
-    next: &[u16],
-    e: usize,
-    from: usize,
-    to: usize,
-) -> bool
-    requires { ⌜ Laid (now v) t ⌝ }
-    requires { ⌜ Linked (volumeOf (now v)) (now first) (now next) ⌝ }
-    requires { ⌜ (e < volumeOf (now v) .edges) × (from < volumeOf (now v) .junctions) ⌝ }
-    requires { ⌜ (from ≡ volumeOf (now v) .edge-from e) × (to ≡ volumeOf (now v) .edge-to e) ⌝ }
-    ensures { λ r. ⌜ r ≡ newEnds (volumeOf (now (v .entry))) e ⌝ }
-{
-    let mut d = first[from] as usize;
-    while d < e {
-        if edge_to(v, t, d) == to {
-            return false;
-        }
-        d = next[d] as usize;
-    }
-    true
 }
 
 // Is k a road from `from` to `to`?
@@ -172,29 +146,18 @@ fn pieces_fit(v: &[u8], t: Tables, roads: usize, e: usize, first: usize, n: usiz
     Fit::Span(greatest)
 }
 
-// Does edge e obey? Its pieces are to begin at `begin`.
-fn edge_fits(
-    v: &[u8],
-    t: Tables,
-    c: Counts,
-    first: &[u16],
-    next: &[u16],
-    e: usize,
-    begin: usize,
-) -> bool
+// Does edge e obey, where no earlier edge has its ends? Its pieces are to begin at `begin`.
+fn edge_fits(v: &[u8], t: Tables, c: Counts, e: usize, begin: usize) -> bool
     requires { ⌜ Laid (now v) t ⌝ }
     requires { ⌜ Counted (volumeOf (now v)) c ⌝ }
-    requires { ⌜ Linked (volumeOf (now v)) (now first) (now next) ⌝ }
     requires { ⌜ e < volumeOf (now v) .edges ⌝ }
+    requires { ⌜ Fresh (volumeOf (now v)) e ⌝ }
     requires { ⌜ begin ≡ begins (volumeOf (now v) .edge-first) (volumeOf (now v) .edge-pieces) e ⌝ }
     ensures { λ r. ⌜ r ≡ edgeRule (volumeOf (now (v .entry))) e ⌝ }
 {
     let from = edge_from(v, t, e);
     let to = edge_to(v, t, e);
     if !ends_fit(c.junctions, from, to) {
-        return false;
-    }
-    if !new_ends(v, t, first, next, e, from, to) {
         return false;
     }
     let at = edge_first(v, t, e);
@@ -212,22 +175,25 @@ fn edge_fits(
     span <= MOST_SPAN
 }
 
-// The pass over all edges: the first at fault, or E where pieces are left over.
-pub fn edges_pass(v: &[u8], t: Tables, c: Counts, first: &[u16], next: &[u16]) -> Pass
+// The pass over all edges, of which `repeat` is the first whose ends an earlier one has: the first edge at fault, or E where pieces
+// are left over.
+pub fn edges_pass(v: &[u8], t: Tables, c: Counts, repeat: usize) -> Pass
     requires { ⌜ Laid (now v) t ⌝ }
     requires { ⌜ Counted (volumeOf (now v)) c ⌝ }
-    requires { ⌜ Linked (volumeOf (now v)) (now first) (now next) ⌝ }
+    requires { ⌜ FirstRepeat (volumeOf (now v)) repeat ⌝ }
     ensures { λ r. ⌜ r ≡ edgesPass (volumeOf (now (v .entry))) ⌝ }
 {
-    let n = c.edges;
     let mut begin: usize = 0;
     let mut e: usize = 0;
-    while e < n {
-        if !edge_fits(v, t, c, first, next, e, begin) {
+    while e < repeat {
+        if !edge_fits(v, t, c, e, begin) {
             return Pass::Fault(e);
         }
         begin = edge_first(v, t, e) + edge_pieces(v, t, e);
         e += 1;
+    }
+    if e < c.edges {
+        return Pass::Fault(e);
     }
     if begin != c.pieces {
         return Pass::Fault(e);

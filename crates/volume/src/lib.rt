@@ -2,6 +2,7 @@
 // "The volume". Travel times are said in the crate `travel`.
 use crate::edges::edges_pass;
 use crate::index::index_edges;
+use crate::repeats::first_repeat;
 use crate::roads::Pass;
 use crate::roads::roads_pass;
 use crate::tables::Counts;
@@ -22,6 +23,7 @@ ghost use Rattle.volume.specs.Open.{recordsOf, openOf};
 
 pub mod edges;
 pub mod index;
+pub mod repeats;
 pub mod roads;
 pub mod tables;
 
@@ -88,7 +90,7 @@ fn edges_indexed(v: &[u8], t: Tables, c: Counts) -> Pass
     let mut first = [0u16; 1024];
     let mut next = [0u16; 16384];
     index_edges(v, t, c, &mut first, &mut next);
-    edges_pass(v, t, c, &first, &next)
+    edges_pass(v, t, c, first_repeat(v, t, c, &first, &next))
 }
 
 // Roads, then edges.

@@ -1,6 +1,6 @@
 use mathlib.Core.Path.{sym, _∙_}
 use borrow.Author.Needs.{needs}
-use Rattle.full.specs.Faults.{verdict-refused, verdict-opened}
+use Rattle.full.specs.FaultFound.{verdict-refused, verdict-opened}
 use Rattle.volume.specs.Opened.{opened}
 use Rattle.full.proofs.check.Statement.{statement}
 use Rattle.full.proofs.check.Tie as tie

@@ -2,8 +2,8 @@ use mathlib.Core.Path.{sym, _∙_}
 use native.Mathlib.Omega.{arith}
 use lib.ListN.{replicate}
 use borrow.Author.Needs.{needs}
-use Rattle.full.specs.Faults.{faults-road, faults-pair}
-use Rattle.volume.specs.Index.{indexed-linked}
+use Rattle.full.specs.Turns.{ready}
+use Rattle.full.specs.FaultFound.{faults-road, faults-pair}
 use Rattle.volume.specs.Format.{volumeOf}
 use Rattle.full.proofs.Tags.{other-than-full}
 use Rattle.full.proofs.fault_of.Statement.{statement}
@@ -28,10 +28,8 @@ roads-fault-requires : tie.Need-roads-fault-requires
 roads-fault-requires c κs =
     let i = c .before .before .before .before in
     let s = i .before .before .before .before in
-    let n = s .pre .1 .1 .0 in
     let few = s .pre .1 .1 .1 in
-    let L = indexed-linked (volumeOf (s .args .v .now)) (replicate 1024 0) (replicate 16384 0) _ _ (omega (arith, few, n .junctions)) (omega (arith, few, n .edges)) (i .index-edges .ensures) in
-    (record { laid = s .pre .0; sound = s .pre .1 .0; linked = L; counted = n .edges }, n .roads)
+    (ready (s .args .v .now) (s .args .t) (s .args .c) (replicate 1024 0) (replicate 16384 0) _ _ (s .pre .0) (s .pre .1 .0) (s .pre .1 .1 .0) (omega arith) (omega arith) (i .index-edges .ensures), s .pre .1 .1 .0 .roads)
 
 enum-told : tie.Need-enum-told
 enum-told c = search needs
@@ -51,10 +49,8 @@ lefts-fault-requires : tie.Need-lefts-fault-requires
 lefts-fault-requires c κs =
     let i = c .before .before .before .before .before .before .before .before .before in
     let s = i .before .before .before .before in
-    let n = s .pre .1 .1 .0 in
     let few = s .pre .1 .1 .1 in
-    let L = indexed-linked (volumeOf (s .args .v .now)) (replicate 1024 0) (replicate 16384 0) _ _ (omega (arith, few, n .junctions)) (omega (arith, few, n .edges)) (i .index-edges .ensures) in
-    record { laid = s .pre .0; sound = s .pre .1 .0; linked = L; counted = n .edges }
+    ready (s .args .v .now) (s .args .t) (s .args .c) (replicate 1024 0) (replicate 16384 0) _ _ (s .pre .0) (s .pre .1 .0) (s .pre .1 .1 .0) (omega arith) (omega arith) (i .index-edges .ensures)
 
 returns-2 : tie.Need-returns-2
 returns-2 c =

@@ -1,7 +1,7 @@
 use mathlib.Core.Path.{sym, _∙_}
 use native.Mathlib.Omega.{arith}
 use borrow.Author.Needs.{needs}
-use Rattle.full.specs.Faults.{fault-low, fault-back, pair-fault-by}
+use Rattle.full.specs.FaultFound.{fault-low, fault-back, pair-fault-by}
 use Rattle.full.specs.Turns.{names-pair}
 use Rattle.volume.specs.Format.{volumeOf}
 use Rattle.full.proofs.pair_fault.Statement.{statement}
@@ -27,50 +27,19 @@ cover-of-requires c κs =
     let k = s .pre .0 .counted in
     (s .pre .0, (omega (arith, s .pre .1 .1 .0 .0, s .pre .0 .sound .edge (s .args .l) (omega arith) .from-in), names-pair (volumeOf (s .args .v .now)) (s .args .l) (s .args .r) (s .pre .0 .sound) (omega arith) (omega arith)))
 
-enum-told : tie.Need-enum-told
-enum-told c = search needs
-
-enum-known-c : tie.Need-enum-known-c
-enum-known-c c = search needs
-
-enum-told-2 : tie.Need-enum-told-2
-enum-told-2 c = search needs
+of-pair-requires : tie.Need-of-pair-requires
+of-pair-requires c κs = search needs
 
 returns-3 : tie.Need-returns-3
 returns-3 c =
-    let f = c .before .before in
+    let f = c .before in
     let s = f .before .before .before .before .before .before .before in
     let there = f .before .before in
-    pair-fault-by (volumeOf (s .args .v .now)) (s .args .l) (s .args .r) (s .args .u) (s .args .m) _ (s .pre .1 .1 .0 .0) (s .pre .1 .1 .0 .1) (there .before .edge-to .ensures .0) _ (s .pre .0 .sound)
-    (omega (arith, s .pre .1 .0, s .pre .0 .counted)) (s .pre .1 .1 .1 .0) (s .pre .1 .1 .1 .1) (omega (arith, there .if1 .left)) (f .before .if2 .left) (sym (c .enum-told .given .1) ∙ f .cover-of .ensures)
-
-returns-4 : tie.Need-returns-4
-returns-4 c =
-    let f = c .before .before .before in
-    let s = f .before .before .before .before .before .before .before in
-    let there = f .before .before in
-    pair-fault-by (volumeOf (s .args .v .now)) (s .args .l) (s .args .r) (s .args .u) (s .args .m) _ (s .pre .1 .1 .0 .0) (s .pre .1 .1 .0 .1) (there .before .edge-to .ensures .0) _ (s .pre .0 .sound)
-    (omega (arith, s .pre .1 .0, s .pre .0 .counted)) (s .pre .1 .1 .1 .0) (s .pre .1 .1 .1 .1) (omega (arith, there .if1 .left)) (f .before .if2 .left) (sym (c .before .c .given .1) ∙ f .cover-of .ensures)
-
-returns-5 : tie.Need-returns-5
-returns-5 c =
-    let f = c .before .before in
-    let s = f .before .before .before .before .before .before .before in
-    let there = f .before .before in
-    pair-fault-by (volumeOf (s .args .v .now)) (s .args .l) (s .args .r) (s .args .u) (s .args .m) _ (s .pre .1 .1 .0 .0) (s .pre .1 .1 .0 .1) (there .before .edge-to .ensures .0) _ (s .pre .0 .sound)
-    (omega (arith, s .pre .1 .0, s .pre .0 .counted)) (s .pre .1 .1 .1 .0) (s .pre .1 .1 .1 .1) (omega (arith, there .if1 .left)) (f .before .if2 .left) (sym (c .enum-told2 .given .1) ∙ f .cover-of .ensures)
+    c .of-pair .ensures
+    ∙ pair-fault-by (volumeOf (s .args .v .now)) (s .args .l) (s .args .r) (s .args .u) (s .args .m) _ (s .pre .1 .1 .0 .0) (s .pre .1 .1 .0 .1) (there .before .edge-to .ensures .0) _ (s .pre .0 .sound)
+    (omega (arith, s .pre .1 .0, s .pre .0 .counted)) (s .pre .1 .1 .1 .0) (s .pre .1 .1 .1 .1) (omega (arith, there .if1 .left)) (f .before .if2 .left) (f .cover-of .ensures)
 
 pub pair-fault-spec : {M : Type 1} → statement M
 pair-fault-spec =
     tie.close
-    (tie.spec
-    edge-to-requires
-    returns
-    returns-2
-    cover-of-requires
-    enum-told
-    enum-known-c
-    enum-told-2
-    returns-3
-    returns-4
-    returns-5)
+    (tie.spec edge-to-requires returns returns-2 cover-of-requires of-pair-requires returns-3)

@@ -2,7 +2,8 @@ use Prim.Native.Nat.{_+_, _-_, _<_}
 use mathlib.Core.Path.{sym, _∙_}
 use native.Mathlib.Omega.{arith}
 use borrow.Author.Needs.{needs}
-use Rattle.full.specs.Faults.{fault-none, fault-high, fault-stop, fault-end, Walked, walk-start, walk-next}
+use Rattle.full.specs.FaultRow.{fault-none, fault-stop, fault-end}
+use Rattle.full.specs.FaultFound.{fault-high, Walked, walk-start, walk-next}
 use Rattle.full.specs.Fault.{pairFault, rightsFault}
 use Rattle.volume.specs.Index.{next-low, link-next}
 use Rattle.volume.specs.Format.{volumeOf}

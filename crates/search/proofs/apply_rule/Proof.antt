@@ -1,10 +1,5 @@
-use mathlib.Core.Path.{refl, ap, sym, _∙_}
-use lib.ListN.{length}
 use borrow.Author.Needs.{needs}
-use Rattle.volume.specs.Format.{volumeOf}
-use Rattle.search.specs.Answer.{told, pathTold, pathAfter}
-use Rattle.search.specs.Asked.{tells-no-way, tells-open, tells-closed, ran-walkable, ran-chain}
-use Rattle.theory.specs.Settling as Rule
+use Rattle.search.specs.Steps.{tells-no-way, tells-open, tells-closed, ran-walkable, ran-chain}
 use Rattle.search.proofs.apply_rule.Statement.{statement}
 use Rattle.search.proofs.apply_rule.Tie as tie
 
@@ -16,7 +11,7 @@ run-requires c κs =
     let s = c .before .before .before .before .before in
     let o = s .pre .0 in
     let a = s .pre .1 in
-    (rw (c .before .tables-of .ensures) (o .laid), (o .counted, (o .few, (o .sound, (a .from-in, a .to-in, a .departs, a .budget, a .room)))))
+    (rw (c .before .tables-of .ensures) (o .laid), (o .counted, (o .few, (o .sound, (a .start, a .destined, a .departs, a .budgeted, a .room)))))
 
 enum-known-outcome : tie.Need-enum-known-outcome
 enum-known-outcome c = search needs
@@ -42,8 +37,7 @@ returns : tie.Need-returns
 returns c =
     let m = c .before in
     let s = m .before .before .before .before .before .before .before .before .before .before in
-    let R = rw (m .outcome .given .1) at (m .before .before .before .before .run .ensures) in
-    (tells-no-way (length (s .args .path .now)) R, (R .kept, refl))
+    tells-no-way (s .args .path .now) (rw (m .outcome .given .1) at (m .before .before .before .before .run .ensures))
 
 same-length-2 : tie.Need-same-length-2
 same-length-2 c = search needs
@@ -52,8 +46,7 @@ returns-2 : tie.Need-returns-2
 returns-2 c =
     let m = c .before in
     let s = m .before .before .before .before .before .before .before .before .before .before in
-    let R = rw (m .outcome2 .given .1) at (m .before .before .before .before .run .ensures) in
-    (tells-open (length (s .args .path .now)) R, (R .kept, refl))
+    tells-open (s .args .path .now) (rw (m .outcome2 .given .1) at (m .before .before .before .before .run .ensures))
 
 same-length-3 : tie.Need-same-length-3
 same-length-3 c = search needs
@@ -65,13 +58,7 @@ returns-3 : tie.Need-returns-3
 returns-3 c =
     let m = c .before .before .before .before .before .before in
     let s = m .before .before .before .before .before .before .before .before .before .before in
-    let vol = volumeOf (s .args .v .now) in
-    let R = rw (m .outcome3 .given .1) at (m .before .before .before .before .run .ensures) in
-    let e = tells-closed (length (s .args .path .now)) R in
-    let r = c .before .before .close in (
-      r .ensures .0 ∙ ap (told vol (s .args .x) (length (s .args .path .now))) (sym e),
-      (R .kept, r .ensures .1 ∙ ap (λ (q : Rule.Answer). pathAfter (r .result) (pathTold vol (s .args .x) q) (s .args .path .now)) (sym e)),
-    )
+    tells-closed (s .args .path .now) (rw (m .outcome3 .given .1) at (m .before .before .before .before .run .ensures)) (c .before .before .close .ensures)
 
 pub apply-rule-spec : {M : Type 1} → statement M
 apply-rule-spec =

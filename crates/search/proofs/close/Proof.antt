@@ -1,9 +1,7 @@
-use mathlib.Core.Path.{refl}
 use native.Mathlib.Omega.{arith}
-use lib.ListN.{length}
 use borrow.Author.Needs.{needs}
+use Rattle.search.specs.Steps.{report-short, report-closed}
 use Rattle.volume.specs.Format.{volumeOf}
-use Rattle.search.specs.Answer.{told-short, told-closed}
 use Rattle.search.specs.Trail.{part-is, trailOf}
 use Rattle.search.proofs.close.Statement.{statement}
 use Rattle.search.proofs.close.Tie as tie
@@ -35,8 +33,10 @@ count-path-requires c κs =
 returns : tie.Need-returns
 returns c =
     let s = c .before .before .before .before .before .before .before .before .before .before in
+    let vol = volumeOf (s .args .v .now) in
+    let es = trailOf vol (s .args .from) (s .args .to) (s .args .used) (s .args .work .now) in
     let p = part-is (c .before .before .before .before .before .walk-back .ensures) 2048 (omega arith) in
-    (told-short (volumeOf (s .args .v .now)) (s .args .x) (length (s .args .path .now)) (s .args .arrival) (s .args .used) _ (trailOf (volumeOf (s .args .v .now)) (s .args .from) (s .args .to) (s .args .used) (s .args .work .now)) (rw p at (c .before .count-path .ensures)) (c .if1 .taken), refl)
+    report-short vol (s .args .x) (s .args .path .now) (s .args .arrival) (s .args .used) _ es (rw p at (c .before .count-path .ensures)) (c .if1 .taken)
 
 mul-write-path : tie.Need-mul-write-path
 mul-write-path c = search needs
@@ -67,7 +67,7 @@ returns-2 c =
     let vol = volumeOf (s .args .v .now) in
     let es = trailOf vol (s .args .from) (s .args .to) (s .args .used) (s .args .work .now) in
     let p = part-is (d .before .before .before .before .walk-back .ensures) 2048 (omega arith) in
-    (told-closed vol (s .args .x) (length (s .args .path .now)) (s .args .arrival) (s .args .used) _ es (rw p at (d .count-path .ensures)) (omega arith) (omega arith), rw p at (c .before .before .write-path .ensures))
+    report-closed vol (s .args .x) (s .args .path .now) (s .args .arrival) (s .args .used) _ es _ (rw p at (d .count-path .ensures)) (omega arith) (omega arith) (rw p at (c .before .before .write-path .ensures))
 
 pub close-spec : {M : Type 1} → statement M
 close-spec =

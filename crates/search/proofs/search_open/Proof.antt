@@ -1,51 +1,43 @@
-use Prim.Native.Nat.{ℕ, _*_}
-use mathlib.Core.List.{List, _++_}
-use mathlib.Core.Path.{refl, ap, sym, _∙_}
 use native.Mathlib.Omega.{arith}
-use lib.ListN.{length, replicate}
 use borrow.Author.Needs.{needs}
-use Rattle.volume.specs.Format.{volumeOf}
-use Rattle.search.specs.declared.Answer.{Answer}
-use Rattle.search.specs.Answer.{ruled, workAfter}
-use Rattle.search.specs.Asked.{in-start, in-destination, in-work, in-rule, early-keeps, told-clears}
+use Rattle.volume.specs.Opened.{opened}
+use Rattle.search.specs.Steps.{no-start, no-destination, no-work, question, by-rule}
 use Rattle.search.proofs.search_open.Statement.{statement}
 use Rattle.search.proofs.search_open.Tie as tie
 
 returns : tie.Need-returns
 returns c =
     let s = c .before .before .before .before in
-    let n = s .pre .0 .counted .junctions in
-    let vol = volumeOf (s .args .v .now) in (
-      in-start vol (s .args .from) (s .args .to) (s .args .x) (s .args .budget) (length (s .args .work .now)) (length (s .args .path .now)) (omega arith),
-      (early-keeps 7 0 (8 * vol .junctions) (s .args .work .now) (omega arith), refl),
-    )
+    no-start (s .args .v .now) (s .args .from) (s .args .to) (s .args .x) (s .args .budget) (s .args .work .now) (s .args .path .now) (s .args .c) (s .pre .0) (c .if1 .taken)
 
 returns-2 : tie.Need-returns-2
 returns-2 c =
     let s = c .before .before .before .before .before in
-    let n = s .pre .0 .counted .junctions in
-    let vol = volumeOf (s .args .v .now) in (
-      in-destination vol (s .args .from) (s .args .to) (s .args .x) (s .args .budget) (length (s .args .work .now)) (length (s .args .path .now)) (omega arith) (omega arith),
-      (early-keeps 7 1 (8 * vol .junctions) (s .args .work .now) (omega arith), refl),
-    )
+    no-destination (s .args .v .now) (s .args .from) (s .args .to) (s .args .x) (s .args .budget) (s .args .work .now) (s .args .path .now) (s .args .c) (s .pre .0) (omega arith) (c .if2 .taken)
 
 mul-if3 : tie.Need-mul-if3
-mul-if3 c = search needs
+mul-if3 c =
+    let s = c .before .before .before .before .before in
+    let n = opened _ _ (s .pre .0) .few .junctions in
+    omega arith
 
 returns-3 : tie.Need-returns-3
 returns-3 c =
     let s = c .before .before .before .before .before .before in
-    let n = s .pre .0 .counted .junctions in
-    let vol = volumeOf (s .args .v .now) in (
-      in-work vol (s .args .from) (s .args .to) (s .args .x) (s .args .budget) (length (s .args .work .now)) (length (s .args .path .now)) (omega arith) (omega arith) (omega arith),
-      (early-keeps 8 0 (8 * vol .junctions) (s .args .work .now) (omega arith), refl),
-    )
+    no-work (s .args .v .now) (s .args .from) (s .args .to) (s .args .x) (s .args .budget) (s .args .work .now) (s .args .path .now) (s .args .c) (s .pre .0) (omega arith) (omega arith) (c .if3 .taken)
 
 apply-rule-requires : tie.Need-apply-rule-requires
-apply-rule-requires c κs = search needs
+apply-rule-requires c κs =
+    let s = c .before .before .before .before .before .before .before .before in (
+      opened (s .args .v .now) (s .args .c) (s .pre .0),
+      question (s .args .v .now) (s .args .from) (s .args .to) (s .args .x) (s .args .budget) (s .args .work .now) (s .args .path .now) (s .args .c) (s .pre .0) (omega arith) (omega arith) (omega arith) (s .pre .1 .0) (s .pre .1 .1),
+    )
 
 mul-clear : tie.Need-mul-clear
-mul-clear c = search needs
+mul-clear c =
+    let s = c .before .before .before .before .before .before .before .before .before .before .before .before .before .before in
+    let n = opened _ _ (s .pre .0) .few .junctions in
+    omega arith
 
 clear-requires : tie.Need-clear-requires
 clear-requires c κs = search needs
@@ -60,19 +52,7 @@ returns-4 : tie.Need-returns-4
 returns-4 c =
     let m = c .before .before .before .before .before .before .before .before in
     let s = m .before .before .before .before .before .before .before .before .before in
-    let n = s .pre .0 .counted .junctions in
-    let vol = volumeOf (s .args .v .now) in
-    let r = m .apply-rule in
-    let q = ruled vol (s .args .from) (s .args .to) (s .args .x) (s .args .budget) in (
-      r .ensures .0 ∙ in-rule vol (s .args .from) (s .args .to) (s .args .x) (s .args .budget) (length (s .args .work .now)) (length (s .args .path .now)) (omega arith) (omega arith) (omega arith),
-      (
-        rw n at (c .before .before .clear .ensures)
-            ∙ ap (λ (l : List ℕ). replicate (8 * vol .junctions) 0 ++ l) (r .ensures .1 .0)
-            ∙ sym (told-clears vol (s .args .x) (length (s .args .path .now)) (8 * vol .junctions) q (s .args .work .now))
-            ∙ ap (λ (a : Answer). workAfter a (8 * vol .junctions) (s .args .work .now)) (sym (r .ensures .0)),
-        r .ensures .1 .1,
-      ),
-    )
+    by-rule (s .args .v .now) (s .args .from) (s .args .to) (s .args .x) (s .args .budget) (s .args .work .now) (s .args .path .now) (s .args .c) (s .pre .0) (omega arith) (omega arith) (omega arith) _ (m .apply-rule .ensures) (c .before .before .clear .ensures)
 
 pub search-open-spec : {M : Type 1} → statement M
 search-open-spec =

@@ -15,17 +15,20 @@ slice-aggregate-index-edges-2 c = search needs
 index-edges-requires : tie.Need-index-edges-requires
 index-edges-requires c κs = search needs
 
-slice-aggregate-edges-pass : tie.Need-slice-aggregate-edges-pass
-slice-aggregate-edges-pass c = search needs
+slice-aggregate-first-repeat : tie.Need-slice-aggregate-first-repeat
+slice-aggregate-first-repeat c = search needs
 
-slice-aggregate-edges-pass-2 : tie.Need-slice-aggregate-edges-pass-2
-slice-aggregate-edges-pass-2 c = search needs
+slice-aggregate-first-repeat-2 : tie.Need-slice-aggregate-first-repeat-2
+slice-aggregate-first-repeat-2 c = search needs
 
-edges-pass-requires : tie.Need-edges-pass-requires
-edges-pass-requires c κs =
+first-repeat-requires : tie.Need-first-repeat-requires
+first-repeat-requires c κs =
     let s = c .before .before .before .before .before .before .before .before in
     let n = s .pre .1 .0 in
-    (s .pre .0, (n, indexed-linked (volumeOf (s .args .v .now)) (replicate 1024 0) (replicate 16384 0) _ _ (omega (arith, s .pre .1 .1, n .junctions)) (omega (arith, s .pre .1 .1, n .edges)) (c .before .before .before .before .index-edges .ensures)))
+    (s .pre .0, (n, (s .pre .1 .1, indexed-linked (volumeOf (s .args .v .now)) (replicate 1024 0) (replicate 16384 0) _ _ (omega (arith, s .pre .1 .1, n .junctions)) (omega (arith, s .pre .1 .1, n .edges)) (c .before .before .before .before .index-edges .ensures))))
+
+edges-pass-requires : tie.Need-edges-pass-requires
+edges-pass-requires c κs = search needs
 
 returns : tie.Need-returns
 returns c = search needs
@@ -37,7 +40,8 @@ edges-indexed-spec =
     slice-aggregate-index-edges
     slice-aggregate-index-edges-2
     index-edges-requires
-    slice-aggregate-edges-pass
-    slice-aggregate-edges-pass-2
+    slice-aggregate-first-repeat
+    slice-aggregate-first-repeat-2
+    first-repeat-requires
     edges-pass-requires
     returns)

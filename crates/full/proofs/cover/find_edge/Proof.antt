@@ -2,8 +2,9 @@ use Prim.Native.Nat.{_+_, _-_, _<_}
 use mathlib.Core.Path.{sym, _∙_}
 use native.Mathlib.Omega.{arith}
 use borrow.Author.Needs.{needs}
-use Rattle.full.specs.Covers.{edge-found, edge-none}
-use Rattle.volume.specs.Index.{NoneBefore, none-first, none-next, next-low, link-next}
+use Rattle.full.specs.CoverFound.{edge-found, edge-none}
+use Rattle.volume.specs.Index.{NoneBefore, none-first, none-next}
+use Rattle.volume.specs.Index.{next-low, link-next}
 use Rattle.volume.specs.Format.{volumeOf}
 use Rattle.full.proofs.cover.find_edge.Statement.{statement}
 use Rattle.full.proofs.cover.find_edge.Tie as tie

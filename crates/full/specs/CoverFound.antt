@@ -63,6 +63,7 @@ module _ (vol : Volume) (u w : ℕ) where
   -- the three covers
 
   module _ (q : Piece) (e : ℕ) (is : e ≡ edgeWith vol u w) where
+    -- no edge is found
     pub cover-missing : e ≡ vol .edges → coverOf vol u w q ≡ Missing
     unfolding coverOf
     cover-missing z = choose-yes _ _ (eq-eqb (edgeWith vol u w) (vol .edges) (sym is ∙ z))
@@ -74,10 +75,12 @@ module _ (vol : Volume) (u w : ℕ) where
       there : eqb (edgeWith vol u w) (vol .edges) ≡ false
       there = ne-eqb (edgeWith vol u w) (vol .edges) (λ z. ne (is ∙ z))
 
+      -- one is, and it is never late
       pub cover-fine : x ≡ vol .period → coverOf vol u w q ≡ Fine
       unfolding coverOf
       cover-fine z = choose-no _ _ there ∙ choose-yes _ _ (eq-eqb (firstLate vol (edgeWith vol u w) q) (vol .period) (late-at ∙ z))
 
+      -- or late first at x
       pub cover-late : x ≢ vol .period → coverOf vol u w q ≡ Late x
       unfolding coverOf
       cover-late n =

@@ -13,12 +13,14 @@ use Rattle.volume.specs.Format.{Volume}
 use Rattle.volume.specs.Sound.{Sound}
 use Rattle.travel.specs.Network.{networkOf, arrival}
 use Rattle.full.specs.Cover.{arrivalBy, leads, edgeWith, noSlower, firstLate, coverOf}
-use Rattle.full.specs.Covers.{edge-found, edge-none, edge-high, cover-missing, cover-fine, cover-late}
+use Rattle.full.specs.CoverFound.{edge-found, edge-none, edge-high, cover-missing, cover-fine, cover-late}
 use Rattle.full.specs.Means.{NoEdge, CoverSays}
 use Rattle.full.specs.declared.cover.Cover.{Cover}
 use Rattle.full.specs.declared.cover.Cover.the-variants.{Missing, Late, Fine}
 
 module _ (vol : Volume) (u w : ℕ) (q : Piece) where
+  -- the two searches
+
   edge-first : FirstOf (λ d. not (leads vol u w d)) 0 (vol .edges) (edgeWith vol u w)
   unfolding edgeWith
   edge-first = first-of (λ d. not (leads vol u w d)) (vol .edges)
