@@ -13,7 +13,8 @@ use Rattle.block.specs.Word.{blockWord, contentAt}
 use Rattle.block.specs.Sums.{checkA, checkB}
 use Rattle.block.specs.Good.{good, Good, good-fact, fact-good}
 use Rattle.block.specs.Whole.{whole, whole-fact}
-use Rattle.block.specs.Seal.{sealed, sealTo, sealed-yes, sealed-no}
+use Rattle.block.specs.declared.Sealing.{Sealing}
+use Rattle.block.specs.Seal.{sealing, sealed, sealTo, sealed-yes, sealed-no}
 use Rattle.block.specs.Store.{Bytes, Written, written-word, word-fits}
 use Rattle.block.specs.Change.{sumA-fits, sumB-fits, sumA-same, sumB-same, sumA-shows}
 use Rattle.block.specs.Sealed.{SealedTo, sealed-to, seal-nothing}
@@ -117,3 +118,8 @@ module _ (v w : List ℕ) (vb : Bytes v) (wb : Bytes w) (k j : ℕ) (few : k < 3
         go : (t : Bool) → good w k ≡ t → good w k ≡ false
         go true e = absurd (ne (same-word (good-fact v k g) (good-fact w k e)))
         go false e = e
+
+-- the contract of sealing allows one outcome: one answer, and one list of bytes
+pub one-sealing : (v : List ℕ) (r s : Sealing) (a b : List ℕ) → (r ≡ sealing v) × (a ≡ sealed v) → (s ≡ sealing v) × (b ≡ sealed v)
+    → (r ≡ s) × (a ≡ b)
+one-sealing v r s a b p q = (p .0 ∙ sym (q .0), p .1 ∙ sym (q .1))

@@ -49,3 +49,10 @@ module _ (v : List ℕ) (from to x b : ℕ) (work path out : List ℕ) where
         ∙ ap (λ (q : Answer). pathAfter q (pathTold (volumeOf v) x (ruled (volumeOf v) from to x b)) path) (s .answers)
         ∙ sym (choose-no _ _ (le-ltb (length out) 8 h));
   }
+
+-- the contract of the search under its C name allows one outcome: number, work area, path list and places of `out`
+pub one-host-search : (v : List ℕ) (from to x b : ℕ) (work path out : List ℕ) (r s : ℕ) (w₁ w₂ p₁ p₂ o₁ o₂ : List ℕ)
+    → HostSearched v from to x b work path out r w₁ p₁ o₁ → HostSearched v from to x b work path out s w₂ p₂ o₂
+    → (r ≡ s) × (w₁ ≡ w₂) × (p₁ ≡ p₂) × (o₁ ≡ o₂)
+one-host-search v from to x b work path out r s w₁ w₂ p₁ p₂ o₁ o₂ a c =
+    (a .answers ∙ sym (c .answers), a .works ∙ sym (c .works), a .writes ∙ sym (c .writes), a .tells ∙ sym (c .tells))

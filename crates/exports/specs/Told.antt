@@ -64,3 +64,8 @@ tells out places said told is h e = (
   ap (λ (t : Told). t .number) is ∙ sym (long-number out told h),
   e ∙ ap (λ (t : Told). withFirst (t .values) out) is ∙ sym (long-places out told h),
 )
+
+-- a function of the C face that tells its answer has one outcome: its number, and the places of `out`
+pub one-telling : (out : List ℕ) (told : Told) (r s : ℕ) (a b : List ℕ) → (r ≡ toldNumber out told) × (a ≡ toldPlaces out told)
+    → (s ≡ toldNumber out told) × (b ≡ toldPlaces out told) → (r ≡ s) × (a ≡ b)
+one-telling out told r s a b p q = (p .0 ∙ sym (q .0), p .1 ∙ sym (q .1))

@@ -1,10 +1,8 @@
 -- What the two travel times that are sold answer: the duration, or a refusal 1 to 7 with its place.
 use Prim.Native.Nat.{ℕ, _-_}
-use mathlib.Core.Path.{_≡_, refl, ap, sym, _∙_}
-use mathlib.Core.Bool.{true, false}
+use mathlib.Core.Path.{_≡_, sym, _∙_}
 use mathlib.Core.List.{List}
 use lib.Dec.{ltb}
-use borrow.Author.Tests.{lt-ltb, le-ltb}
 use Rattle.block.specs.Choose.{choose}
 use Rattle.volume.specs.Format.{volumeOf}
 use Rattle.volume.specs.Open.{openOf}
@@ -37,3 +35,11 @@ edgeTimeOf v edge departure =
 abbrev pub paper : Timing → ℕ × ℕ
 paper (Lasts d) = (0, d)
 paper (Refused number place) = (number, place)
+
+-- the contracts of the two travel times allow one answer
+
+pub one-road-time : (v : List ℕ) (road departure : ℕ) (r s : Timing) → r ≡ roadTimeOf v road departure → s ≡ roadTimeOf v road departure → r ≡ s
+one-road-time v road departure r s p q = p ∙ sym q
+
+pub one-edge-time : (v : List ℕ) (edge departure : ℕ) (r s : Timing) → r ≡ edgeTimeOf v edge departure → s ≡ edgeTimeOf v edge departure → r ≡ s
+one-edge-time v edge departure r s p q = p ∙ sym q

@@ -39,6 +39,10 @@ abbrev pub paper : Opening → ℕ
 paper (Opened c) = 0
 paper (Refused number place) = number
 
+-- the contract of opening allows one answer
+pub one-opening : (v : List ℕ) (r s : Opening) → r ≡ openOf v → s ≡ openOf v → r ≡ s
+one-opening v r s p q = p ∙ sym q
+
 -- the five ways through the tests
 
 module _ (v : List ℕ) where
