@@ -11,7 +11,7 @@ use lib.Dec.{ltb}
 use lib.ListN.{length, getD}
 use borrow.Author.Tests.{eq-eqb, ne-eqb, lt-ltb, le-ltb}
 use Rattle.block.specs.Choose.{choose, choose-yes, choose-no, choose-first}
-use Rattle.theory.specs.Settling.{Web, Label, nothing, settled, Table, put, offered, offer, leaves-by, leads-to, web}
+use Rattle.theory.specs.Settling.{Web, Label, Table, put, offered, offer, leaves-by, leads-to, web}
 use Rattle.theory.specs.Marks.{marked}
 use Rattle.theory.specs.Computing.{offer-skips, offer-makes}
 use Rattle.volume.specs.Format.{Volume, volumeOf, Laid}
@@ -214,12 +214,12 @@ module _ (W : Web) (S s a k : ℕ) (w : List ℕ) where
         (holds-same S w)
 
     -- one that is offered, with its arrival b
-    pub arc-offered : (b j : ℕ) (v : List ℕ) → b ≡ W .arr k a → j ≡ k → 4 * S ≤ length w → v ≡ offerTo w to b j
+    pub arc-offered : (h b j : ℕ) (v : List ℕ) → b ≡ W .arr k a → j ≡ k → 4 * S ≤ length w → v ≡ offerTo w h to b j
         → Holds S w v (offer W s a k (labels S w))
-    arc-offered b j v q i room is =
+    arc-offered h b j v q i room is =
         rw (is, i)
-        (holds-as S w (offerTo w to b k) (put (labels S w) to (offered (labels S w to) b k)) (offer W s a k (labels S w)) (sym (is-offer b (sym q)))
-        (holds-offer S w to b k inside room))
+        (holds-as S w (offerTo w h to b k) (put (labels S w) to (offered (labels S w to) b k)) (offer W s a k (labels S w)) (sym (is-offer b (sym q)))
+        (holds-offer S w h to b k inside room))
 
 -- an edge entered before 2 ^ 62 can be asked for its time
 pub enters-soon : (vol : Volume) → Sound vol → (e a : ℕ) → e < vol .edges → a < 2 ^ 62 → Enters vol e a

@@ -7,4 +7,6 @@ pub mod Arcs
 pub mod Edges
 pub mod Marked
 pub mod Seen
+pub mod Scan
 pub mod Offered
+pub mod Chain

@@ -1,85 +1,32 @@
--- The tests before a unit, as the code makes them over the work area: the least waiting state by a scan, and what is seen. Each answer of
--- the code is told in the theory's words.
-use Prim.Native.Nat.{ℕ, zero, suc, _+_, _*_, _≤_, _<_}
+-- The tests before a unit, as the code makes them over the work area: what is seen with the pick that Scan finds, and the upper end. Each
+-- answer of the code is told in the theory's words.
+use Prim.Native.Nat.{ℕ, zero, suc, _+_, _*_, _<_}
 use mathlib.Core.List.{List}
 use mathlib.Core.Logic.{_≢_}
-use mathlib.Core.Path.{_≡_, refl, sym, _∙_, ap, ap₂}
-use native.Mathlib.Numerals.{add-one}
+use mathlib.Core.Path.{_≡_, refl, sym, _∙_, ap}
 use lib.ListN.{getD}
-use borrow.Author.Tests.{lt-ltb, le-ltb, eq-eqb, ne-eqb}
-use Rattle.theory.specs.Settling.{Label, nothing, waiting, settled, Pick as Picking, nobody, picked, better, least, none, at-most, upper-end, View as Viewing, nothing-waits, destination, next, view-of}
+use borrow.Author.Tests.{eq-eqb, ne-eqb}
+use Rattle.theory.specs.Settling.{Label, Pick as Picking, nobody, picked, none, at-most, upper-end, View as Viewing, nothing-waits, destination, next, view-of}
 use Rattle.settle.specs.Work.{label-of, labels, labels-in}
-use Rattle.settle.specs.declared.seen.Pick.{Pick}
-use Rattle.settle.specs.declared.seen.Pick.the-variants.{Nobody, Picked}
+use Rattle.settle.specs.Chain.{Precedes}
 use Rattle.settle.specs.declared.seen.View.{View}
 use Rattle.settle.specs.declared.seen.View.the-variants.{NothingWaits, Destination, Next}
-
--- a pick, in the theory's words
-abbrev pub pickOf : Pick → Picking
-pickOf Nobody = nobody
-pickOf (Picked s a) = picked s a
 
 -- a view, in the theory's words
 abbrev pub viewOf : View → Viewing
 viewOf NothingWaits = nothing-waits
 viewOf (Destination a) = destination a
-viewOf (Next s a) = next s a
+viewOf (Next s a b) = next s a
 
--- One state more
+-- the state to settle comes in the chain from h after the one that the view names
+abbrev pub ViewLinked : ℕ → List ℕ → ℕ → View → Type 0
+ViewLinked S w h NothingWaits = Unit {0}
+ViewLinked S w h (Destination a) = Unit {0}
+ViewLinked S w h (Next s a b) = Precedes S w h b s
 
--- a state that does not wait is passed over
-pub better-passes : (q : Picking) (t kind a k : ℕ) → kind ≢ 1 → better q t (label-of kind a k) ≡ q
-better-passes q t zero a k n = go q
-  where
-    go : (q : Picking) → better q t nothing ≡ q
-    go nobody = refl
-    go (picked s b) = refl
-better-passes q t (suc zero) a k n = absurd (n refl)
-better-passes q t (suc (suc m)) a k n = go q
-  where
-    go : (q : Picking) → better q t (settled a k) ≡ q
-    go nobody = refl
-    go (picked s b) = refl
-
--- a waiting one is the first
-pub better-first : (t kind a k : ℕ) → kind ≡ 1 → better nobody t (label-of kind a k) ≡ picked t a
-better-first t kind a k e = ap (λ (n : ℕ). better nobody t (label-of n a k)) e
-
--- or strictly sooner than the pick so far
-pub better-sooner : (s b t kind a k : ℕ) → kind ≡ 1 → a < b → better (picked s b) t (label-of kind a k) ≡ picked t a
-better-sooner s b t kind a k e h = ap (λ (n : ℕ). better (picked s b) t (label-of n a k)) e ∙ rw (lt-ltb a b h)
-
--- or not
-pub better-later : (s b t kind a k : ℕ) → kind ≡ 1 → b ≤ a → better (picked s b) t (label-of kind a k) ≡ picked s b
-better-later s b t kind a k e h = ap (λ (n : ℕ). better (picked s b) t (label-of n a k)) e ∙ rw (le-ltb a b h)
-
--- the arc has no say
-better-arc : (q : Picking) (t kind a k : ℕ) → better q t (label-of kind a k) ≡ better q t (label-of kind a 0)
-better-arc q t zero a k = refl
-better-arc nobody t (suc zero) a k = refl
-better-arc (picked s b) t (suc zero) a k = refl
-better-arc q t (suc (suc m)) a k = go q
-  where
-    go : (q : Picking) → better q t (settled a k) ≡ better q t (settled a 0)
-    go nobody = refl
-    go (picked s b) = refl
-
--- The scan
-
--- no state yet
-pub least-none : (S : ℕ) (w : List ℕ) → nobody ≡ least 0 (labels S w)
-unfolding least
-least-none S w = refl
-
--- one state more
-pub least-more : (S : ℕ) (w : List ℕ) (t : ℕ) (p q : Picking) → t < S → p ≡ least t (labels S w)
-    → q ≡ better p t (label-of (getD w (4 * t) 0) (getD w (4 * t + 1) 0) 0) → q ≡ least (t + 1) (labels S w)
-unfolding least
-least-more S w t p q h i e =
-    e
-    ∙ sym (better-arc p t (getD w (4 * t) 0) (getD w (4 * t + 1) 0) (getD w (4 * t + 2) 0))
-    ∙ ap₂ (λ (p : Picking) (l : Label). better p t l) i (sym (labels-in S w t h))
-    ∙ ap (λ (n : ℕ). least n (labels S w)) (sym (add-one t))
+-- so a view that names b is linked there
+pub view-linked : (S : ℕ) (w : List ℕ) (h s a b : ℕ) (v : View) → v ≡ Next s a b → ViewLinked S w h v → Precedes S w h b s
+view-linked S w h s a b v e l = rw e at l
 
 -- What is seen, where d is the destination's state
 

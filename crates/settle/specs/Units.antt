@@ -7,7 +7,7 @@ use native.Mathlib.Omega.{arith}
 use native.Mathlib.Numerals.{add-one}
 use native.Mathlib.Nat.{sub-zero}
 use lib.ListN.{length, drop}
-use Rattle.theory.specs.Settling.{Label, nothing, waiting, settled, Table, put, first, arc-of, settle, least, UpperEnd, upper-end, View, nothing-waits, destination, next, view-of, look, run, search-from, arrives-by, answer, open-from}
+use Rattle.theory.specs.Settling.{Label, nothing, waiting, settled, Table, put, offered, first, arc-of, settle, least, UpperEnd, upper-end, View, nothing-waits, destination, next, view-of, look, run, search-from, arrives-by, answer, open-from}
 use Rattle.theory.specs.Labels.{Waits, put-at}
 use Rattle.theory.specs.OneUnit.{Step, kept, settles, reached, hastened, settle-step}
 use Rattle.theory.specs.Looks.{Next, Sees, look-right}
@@ -17,7 +17,9 @@ use Rattle.volume.specs.Rules.{longest, mostSpan}
 use Rattle.volume.specs.Sound.{Sound}
 use Rattle.travel.specs.Network.{networkOf}
 use Rattle.travel.specs.Halves.{edge-short}
-use Rattle.settle.specs.Work.{label-at, labels, labels-in, store, cleared, Holds, holds-then, holds-cleared, holds-store}
+use Rattle.settle.specs.Work.{label-at, labels, labels-in, cleared, cleared-zero, Holds, holds-then, holds-cleared}
+use Rattle.settle.specs.Chain.{Chained, chained-none}
+use Rattle.settle.specs.Offered.{offerTo, headTo, holds-offer, rechained-offer}
 use Rattle.settle.specs.Arcs.{webOf, statesOf}
 use Rattle.settle.specs.Outcome.{upperOf, Ends, UpperFits, OutcomeFits, Ran}
 use Rattle.settle.specs.declared.Upper.{Upper}
@@ -116,15 +118,22 @@ pub seen-as : (vol : Volume) (d n : ℕ) (w : List ℕ) (v : View) → n ≡ vol
     → v ≡ view-of (labels (n + n) w (n + d)) (least (n + n) (labels (n + n) w)) → v ≡ seenIn vol d w
 seen-as vol d n w v count e = e ∙ ap (λ (m : ℕ). view-of (labels (m + m) w (m + d)) (least (m + m) (labels (m + m) w))) count
 
--- a cleared work area with the start's label holds the first table
-pub holds-first : (vol : Volume) (u x n : ℕ) (e w v : List ℕ) → n ≡ vol .junctions → u < vol .junctions → 8 * vol .junctions ≤ length e
-    → w ≡ cleared e (4 * (n + n)) → v ≡ store w u 1 x 0 → Holds (statesOf vol) e v (first u x)
-holds-first vol u x n e w v count h room zeroes label =
+-- a cleared work area in which the start is offered the departure holds the first table; f is the first of the chain before
+pub holds-first : (vol : Volume) (u x n f : ℕ) (e w v : List ℕ) → n ≡ vol .junctions → u < vol .junctions → 8 * vol .junctions ≤ length e
+    → w ≡ cleared e (4 * (n + n)) → v ≡ offerTo w f u x 0 → Holds (statesOf vol) e v (first u x)
+holds-first vol u x n f e w v count h room zeroes label =
     let c : w ≡ cleared e (4 * statesOf vol) = zeroes ∙ ap (λ (m : ℕ). cleared e (4 * (m + m))) count in
     let H : Holds (statesOf vol) e w (λ t. nothing) = rw c (holds-cleared (statesOf vol) e (omega arith)) in
     rw label
-    (holds-then (statesOf vol) e w (store w u 1 x 0) (λ t. nothing) (λ (L : Table). put L u (waiting x 0)) H
-    (holds-store (statesOf vol) w u 1 x 0 (omega arith) (omega (arith, H .size))))
+    (holds-then (statesOf vol) e w (offerTo w f u x 0) (λ t. nothing) (λ (L : Table). put L u (offered (L u) x 0)) H
+    (holds-offer (statesOf vol) w f u x 0 (omega arith) (omega (arith, H .size))))
+
+-- and the start is all of its chain
+pub chained-first : (S u x r : ℕ) (e w v : List ℕ) → u < S → 4 * S ≤ length w → w ≡ cleared e (4 * S) → v ≡ offerTo w S u x 0
+    → r ≡ headTo w S u → Chained S v r
+chained-first S u x r e w v h room zeroes label head =
+    rechained-offer S w S u x 0 h room v r label head
+    (chained-none S w (λ t l. rw zeroes (cleared-zero (4 * S) e (4 * t) (omega arith))))
 
 -- at first the start, climbing, waits with the departure
 pub onward-first : (vol : Volume) (u d x b : ℕ) (w : List ℕ) → labels (statesOf vol) w ≡ first u x → Onward vol u d x b w 0 w

@@ -12,14 +12,14 @@ use lib.ListN.{length, getD, set}
 use lib.Seq.{getD-set-other, set-getD}
 use borrow.Author.Tests.{eq-eqb, ne-eqb, lt-ltb, le-ltb}
 use Rattle.block.specs.Choose.{choose, choose-yes, choose-no}
-use Rattle.theory.specs.Settling.{settled, Table, put, offer, relax, settle-label, settle, leaves-by}
-use Rattle.theory.specs.Labels.{Waits}
+use Rattle.theory.specs.Settling.{Table, put, offer, relax, settle-label, settle, leaves-by}
 use Rattle.theory.specs.Marks.{marked}
 use Rattle.theory.specs.Computing.{relax-more, relax-skips}
 use Rattle.volume.specs.Format.{Volume}
 use Rattle.volume.specs.Index.{nextFrom, next-low, next-skips}
 use Rattle.travel.specs.Network.{networkOf}
 use Rattle.settle.specs.Work.{label-of, labels, labels-in, store, Holds, holds-same, holds-then, holds-as, holds-store}
+use Rattle.settle.specs.Chain.{WaitsAt}
 use Rattle.settle.specs.Offered.{offerTo}
 use Rattle.settle.specs.Marked.{MarksBelow, mark-one, mark-other}
 use Rattle.settle.specs.Arcs.{webOf, statesOf, placeOf, leadOf, leaves-away, arc-skipped, arc-offered}
@@ -28,9 +28,9 @@ use Rattle.settle.specs.declared.arcs.Lead.the-variants.{To, Nowhere}
 -- Settled
 
 -- a kind that becomes 2 settles a label that waits
-pub holds-settled : (S : ℕ) (w : List ℕ) (s a : ℕ) → s < S → 4 * S ≤ length w → Waits (labels S w s) a
+pub holds-settled : (S : ℕ) (w : List ℕ) (s : ℕ) → s < S → 4 * S ≤ length w → WaitsAt w s
     → Holds S w (set w (4 * s) 2) (put (labels S w) s (settle-label (labels S w s)))
-holds-settled S w s a h l waits =
+holds-settled S w s h l waits =
     rw (sym stored, settles) (holds-store S w s 2 b k h l)
   where
     b : ℕ
@@ -39,13 +39,8 @@ holds-settled S w s a h l waits =
     k : ℕ
     k = getD w (4 * s + 2) 0
 
-    by-kind : (kind : ℕ) → Waits (label-of kind b k) a → settle-label (label-of kind b k) ≡ label-of 2 b k
-    by-kind zero q = absurd q
-    by-kind (suc zero) q = refl
-    by-kind (suc (suc m)) q = absurd q
-
     settles : settle-label (labels S w s) ≡ label-of 2 b k
-    settles = ap settle-label (labels-in S w s h) ∙ by-kind (getD w (4 * s) 0) (rw (labels-in S w s h) at waits)
+    settles = ap settle-label (labels-in S w s h) ∙ ap (λ (kind : ℕ). settle-label (label-of kind b k)) waits
 
     stored : store w s 2 b k ≡ set w (4 * s) 2
     stored =
@@ -56,23 +51,24 @@ holds-settled S w s a h l waits =
 
 -- The turn
 
--- the work area after state s, settled at a, offered its own junction, descending, if it climbs and is marked
-unfoldable pub turned : List ℕ → ℕ → ℕ → ℕ → List ℕ → List ℕ
-turned marks n s a w = choose (ltb s n) (choose (eqb (getD marks s 0) 1) (offerTo w (n + s) a 0) w) w
+-- the work area after state s, settled at a, offered its own junction, descending, if it climbs and is marked; h is the
+-- first of the chain
+unfoldable pub turned : List ℕ → ℕ → ℕ → ℕ → ℕ → List ℕ → List ℕ
+turned marks n s a h w = choose (ltb s n) (choose (eqb (getD marks s 0) 1) (offerTo w h (n + s) a 0) w) w
 
-module _ (marks : List ℕ) (n s a : ℕ) (w : List ℕ) where
+module _ (marks : List ℕ) (n s a f : ℕ) (w : List ℕ) where
   -- a climbing state that is marked
-  pub turn-made : s < n → getD marks s 0 ≡ 1 → offerTo w (n + s) a 0 ≡ turned marks n s a w
+  pub turn-made : s < n → getD marks s 0 ≡ 1 → offerTo w f (n + s) a 0 ≡ turned marks n s a f w
   unfolding turned
   turn-made h m = sym (choose-yes _ _ (lt-ltb s n h) ∙ choose-yes _ _ (eq-eqb (getD marks s 0) 1 m))
 
   -- one that is not marked
-  pub turn-unmarked : s < n → getD marks s 0 ≢ 1 → w ≡ turned marks n s a w
+  pub turn-unmarked : s < n → getD marks s 0 ≢ 1 → w ≡ turned marks n s a f w
   unfolding turned
   turn-unmarked h m = sym (choose-yes _ _ (lt-ltb s n h) ∙ choose-no _ _ (ne-eqb (getD marks s 0) 1 m))
 
   -- a descending state
-  pub turn-none : n ≤ s → w ≡ turned marks n s a w
+  pub turn-none : n ≤ s → w ≡ turned marks n s a f w
   unfolding turned
   turn-none h = sym (choose-no _ _ (le-ltb s n h))
 
@@ -93,11 +89,11 @@ module _ (vol : Volume) (d s a : ℕ) where
   turn-descending h = sym (choose-no _ _ (rw (le-ltb s (vol .junctions) h)))
 
   -- so the turn is offered
-  pub turn-offered : (n : ℕ) (marks w v : List ℕ) → n ≡ vol .junctions → 8 * n ≤ length w → MarksBelow vol d (vol .junctions) marks
-      → v ≡ turned marks n s a w → Holds (statesOf vol) w v (offer (webOf vol d) s a 0 (labels (statesOf vol) w))
-  turn-offered n marks w v count room M is = go (decLt s n) (ℕ-discrete (getD marks s 0) 1)
+  pub turn-offered : (n f : ℕ) (marks w v : List ℕ) → n ≡ vol .junctions → 8 * n ≤ length w → MarksBelow vol d (vol .junctions) marks
+      → v ≡ turned marks n s a f w → Holds (statesOf vol) w v (offer (webOf vol d) s a 0 (labels (statesOf vol) w))
+  turn-offered n f marks w v count room M is = go (decLt s n) (ℕ-discrete (getD marks s 0) 1)
     where
-      skipped : Nowhere ≡ leadOf (webOf vol d) s 0 → w ≡ turned marks n s a w
+      skipped : Nowhere ≡ leadOf (webOf vol d) s 0 → w ≡ turned marks n s a f w
           → Holds (statesOf vol) w v (offer (webOf vol d) s a 0 (labels (statesOf vol) w))
       skipped e q = rw (is ∙ sym q) (arc-skipped (webOf vol d) (statesOf vol) s a 0 w e)
 
@@ -105,12 +101,12 @@ module _ (vol : Volume) (d s a : ℕ) where
       go (yes h) (yes m) =
           let l : s < vol .junctions = omega arith in
           arc-offered (webOf vol d) (statesOf vol) s a 0 w (vol .junctions + s)
-          (turn-lead l (mark-one (marked (networkOf vol) d s) (getD marks s 0) (M s l) m)) (omega arith) a 0 v refl refl (omega arith)
-          (is ∙ sym (turn-made marks n s a w h m) ∙ ap (λ (m : ℕ). offerTo w (m + s) a 0) count)
+          (turn-lead l (mark-one (marked (networkOf vol) d s) (getD marks s 0) (M s l) m)) (omega arith) f a 0 v refl refl (omega arith)
+          (is ∙ sym (turn-made marks n s a f w h m) ∙ ap (λ (m : ℕ). offerTo w f (m + s) a 0) count)
       go (yes h) (no m) =
           let l : s < vol .junctions = omega arith in
-          skipped (turn-nowhere l (mark-other (marked (networkOf vol) d s) (getD marks s 0) (M s l) m)) (turn-unmarked marks n s a w h m)
-      go (no g) m = skipped (turn-descending (omega arith)) (turn-none marks n s a w (omega arith))
+          skipped (turn-nowhere l (mark-other (marked (networkOf vol) d s) (getD marks s 0) (M s l) m)) (turn-unmarked marks n s a f w h m)
+      go (no g) m = skipped (turn-descending (omega arith)) (turn-none marks n s a f w (omega arith))
 
 -- The walk
 
@@ -156,11 +152,11 @@ walk-ends vol d s a e w₀ w v q turn walk =
 
 -- One unit
 
--- the state settled, and then all its offers
-pub unit-done : (vol : Volume) (d s a : ℕ) (w₀ w v : List ℕ)
-    → Holds (statesOf vol) w₀ w (put (labels (statesOf vol) w₀) s (settle-label (labels (statesOf vol) w₀ s)))
+-- the state settled, and then all its offers, where n is the number of junctions
+pub unit-done : (vol : Volume) (d s a n : ℕ) (w₀ w v : List ℕ) → n ≡ vol .junctions
+    → Holds (n + n) w₀ w (put (labels (n + n) w₀) s (settle-label (labels (n + n) w₀ s)))
     → Holds (statesOf vol) w v (relax (webOf vol d) s a (webOf vol d .arcs) (labels (statesOf vol) w))
     → Holds (statesOf vol) w₀ v (settle (webOf vol d) s a (labels (statesOf vol) w₀))
 unfolding settle
-unit-done vol d s a w₀ w v one offers =
-    holds-then (statesOf vol) w₀ w v _ (relax (webOf vol d) s a (webOf vol d .arcs)) one offers
+unit-done vol d s a n w₀ w v count one offers =
+    holds-then (statesOf vol) w₀ w v _ (relax (webOf vol d) s a (webOf vol d .arcs)) (rw count at one) offers

@@ -1,5 +1,5 @@
 -- The lent work area as the settling rule's table of labels: state t has four numbers from place 4 t on, its kind (0 nothing, 1 waiting,
--- 2 settled), its arrival, its arc and one to spare. Here is how a table is read, what a store of a state's three numbers does to it,
+-- 2 settled), its arrival, its arc and what follows it in the chain of the waiting (Chain). Here is how a table is read, what a store of a state's three numbers does to it,
 -- and `Holds`, in which every function that writes the work area says what it leaves.
 use Prim.Native.Nat.{ℕ, zero, suc, _+_, _*_, _≤_, _<_}
 use mathlib.Core.Bool.{cond}
@@ -12,7 +12,7 @@ use lib.Dec.{ltb}
 use lib.ListN.{length, getD, set, drop, replicate, length-set, length-append, length-replicate, length-drop, getD-replicate, List·getD-append}
 use lib.Seq.{getD-set-same, getD-set-other, drop-set-lt, drop-at}
 use borrow.Author.Tests.{lt-ltb, le-ltb}
-use Rattle.theory.specs.Settling.{Label, nothing, waiting, settled, Table, put, first}
+use Rattle.theory.specs.Settling.{Label, nothing, waiting, settled, Table, put}
 use Rattle.theory.specs.Labels.{put-same, put-other}
 
 -- The table
@@ -71,6 +71,10 @@ holds-as S w₀ w L K e a = record { table = a .table ∙ e; tail = a .tail; siz
 abbrev pub cleared : List ℕ → ℕ → List ℕ
 cleared w n = replicate n 0 ++ drop n w
 
+-- each of them reads as zero
+pub cleared-zero : (n : ℕ) (w : List ℕ) (i : ℕ) → i < n → getD (cleared w n) i 0 ≡ 0
+cleared-zero n w i l = List·getD-append (replicate n 0) (drop n w) 0 i (rw length-replicate l) ∙ getD-replicate n i 0 0 l
+
 -- in a cleared work area there is nothing
 pub holds-cleared : (S : ℕ) (w : List ℕ) → 4 * S ≤ length w → Holds S w (cleared w (4 * S)) (λ t. nothing)
 holds-cleared S w h = record {
@@ -79,15 +83,11 @@ holds-cleared S w h = record {
   size = simp (length-append, length-replicate, length-drop) (omega arith);
 }
   where
-    zero-at : (i : ℕ) → i < 4 * S → getD (cleared w (4 * S)) i 0 ≡ 0
-    zero-at i l =
-        List·getD-append (replicate (4 * S) 0) (drop (4 * S) w) 0 i (rw length-replicate l) ∙ getD-replicate (4 * S) i 0 0 l
-
     go : (t : ℕ) → Dec (t < S) → labels S (cleared w (4 * S)) t ≡ nothing
     go t (yes l) =
         labels-in S (cleared w (4 * S)) t l
         ∙ ap (λ (k : ℕ). label-of k (getD (cleared w (4 * S)) (4 * t + 1) 0) (getD (cleared w (4 * S)) (4 * t + 2) 0))
-        (zero-at (4 * t) (omega arith))
+        (cleared-zero (4 * S) w (4 * t) (omega arith))
     go t (no g) = labels-out S (cleared w (4 * S)) t (omega arith)
 
 -- A store
@@ -98,7 +98,7 @@ store w s kind a k = set (set (set w (4 * s) kind) (4 * s + 1) a) (4 * s + 2) k
 
 module _ (w : List ℕ) (s kind a k : ℕ) (l : 4 * s + 4 ≤ length w) where
   -- the kind that is read there
-  at-kind : getD (store w s kind a k) (4 * s) 0 ≡ kind
+  pub at-kind : getD (store w s kind a k) (4 * s) 0 ≡ kind
   at-kind =
       getD-set-other (set (set w (4 * s) kind) (4 * s + 1) a) (4 * s + 2) (4 * s) k 0 (omega arith)
       ∙ getD-set-other (set w (4 * s) kind) (4 * s + 1) (4 * s) a 0 (omega arith)
@@ -117,7 +117,7 @@ module _ (w : List ℕ) (s kind a k : ℕ) (l : 4 * s + 4 ≤ length w) where
       (omega (arith, length-set w (4 * s) kind, length-set (set w (4 * s) kind) (4 * s + 1) a))
 
   -- every other place is as it was
-  elsewhere : (j : ℕ) → j ≢ 4 * s → j ≢ 4 * s + 1 → j ≢ 4 * s + 2 → getD (store w s kind a k) j 0 ≡ getD w j 0
+  pub elsewhere : (j : ℕ) → j ≢ 4 * s → j ≢ 4 * s + 1 → j ≢ 4 * s + 2 → getD (store w s kind a k) j 0 ≡ getD w j 0
   elsewhere j n₀ n₁ n₂ =
       getD-set-other (set (set w (4 * s) kind) (4 * s + 1) a) (4 * s + 2) j k 0 n₂
       ∙ getD-set-other (set w (4 * s) kind) (4 * s + 1) j a 0 n₁
@@ -168,3 +168,24 @@ holds-store S w s kind a k h l = record {
       ∙ drop-set-lt (4 * S) w (4 * s) kind (omega arith);
   size = simp length-set;
 }
+
+-- A store to the number that is no part of a label
+
+-- leaves every label and what stands after the states
+pub holds-spare : (S : ℕ) (w : List ℕ) (s x : ℕ) → s < S → Holds S w (set w (4 * s + 3) x) (labels S w)
+holds-spare S w s x h = record {
+  table = fun-ext (λ t. go t (decLt t S));
+  tail = drop-set-lt (4 * S) w (4 * s + 3) x (omega arith);
+  size = simp length-set;
+}
+  where
+    go : (t : ℕ) → Dec (t < S) → labels S (set w (4 * s + 3) x) t ≡ labels S w t
+    go t (yes l) =
+        labels-in S (set w (4 * s + 3) x) t l
+        ∙ rw (
+          getD-set-other w (4 * s + 3) (4 * t) x 0 (omega arith),
+          getD-set-other w (4 * s + 3) (4 * t + 1) x 0 (omega arith),
+          getD-set-other w (4 * s + 3) (4 * t + 2) x 0 (omega arith),
+        )
+        (sym (labels-in S w t l))
+    go t (no g) = labels-out S (set w (4 * s + 3) x) t (omega arith) ∙ sym (labels-out S w t (omega arith))

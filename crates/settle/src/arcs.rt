@@ -2,6 +2,7 @@
 use crate::labels::SETTLED;
 use crate::labels::STATE;
 use crate::labels::offer_to;
+use crate::labels::take_out;
 use travel::edge::edge_duration;
 use volume::tables::Counts;
 use volume::tables::Tables;
@@ -10,12 +11,11 @@ ghost use mathlib.Core.Path.{_≡_};
 ghost use Prim.Native.Nat.{ℕ, suc, _+_, _*_, _^_, _≤_, _<_};
 ghost use lib.ListN.{length};
 ghost use Rattle.theory.specs.Settling.{offer, relax, settle};
-ghost use Rattle.theory.specs.Labels.{Waits};
 ghost use Rattle.volume.specs.Format.{volumeOf, Counted};
 ghost use Rattle.volume.specs.Index.{Linked};
-ghost use Rattle.settle.specs.Work.{labels};
+ghost use Rattle.settle.specs.Chain.{WaitsAt, Chained, Precedes, Rechained};
 ghost use Rattle.settle.specs.Marked.{MarksBelow};
-ghost use Rattle.settle.specs.Arcs.{Ready, Does, placeOf, statesOf, webOf, leadOf, LeadsBelow};
+ghost use Rattle.settle.specs.Arcs.{Ready, Does, placeOf, webOf, leadOf, LeadsBelow};
 ghost use Rattle.settle.specs.Walk.{turned};
 
 // The state to which an edge leads a state, if the state offers it.
@@ -56,7 +56,8 @@ fn lead_of(v: &[u8], t: Tables, n: usize, marks: &[u8], s: usize, e: usize) -> L
     Lead::Nowhere
 }
 
-// Offers edge e from state s, which is settled at `arrival`. The time of an edge to a settled state is not asked.
+// Offers edge e from state s, which is settled at `arrival`. The time of an edge to a settled state is not asked. Returns the first of the
+// chain, as every function here that makes offers does.
 fn offer_edge(
     v: &[u8],
     t: Tables,
@@ -65,33 +66,45 @@ fn offer_edge(
     s: usize,
     e: usize,
     arrival: u64,
+    head: usize,
     work: &mut [u64],
-)
+) -> usize
     requires { ⌜ Ready (now v) t n (now marks) s ⌝ }
     requires { ⌜ (e < volumeOf (now v) .edges) × (volumeOf (now v) .edge-from e ≡ placeOf n s) ⌝ }
     requires { ⌜ (arrival < 2 ^ 62) × (8 * n ≤ length (now work)) ⌝ }
     ensures { λ r. ⌜ Does (volumeOf (now (v .entry))) (now (marks .entry)) (now (work .entry)) (now (work .exit)) (λ W. offer W s arrival (suc e)) ⌝ }
+    ensures { λ r. ⌜ Rechained (n + n) (now (work .entry)) head (now (work .exit)) r ⌝ }
 {
     let Lead::To(to) = lead_of(v, t, n, marks, s, e) else {
-        return;
+        return head;
     };
     let at = STATE * to;
     if work[at] < SETTLED {
         let later = arrival + edge_duration(v, t, e, arrival);
-        offer_to(work, to, later, e as u64 + 1);
+        return offer_to(work, head, to, later, e as u64 + 1);
     }
+    head
 }
 
 // Offers the turn from state s, which is settled at `arrival`: a climbing state its own junction, descending, if marked.
-fn offer_turn(n: usize, marks: &[u8], s: usize, arrival: u64, work: &mut [u64])
+fn offer_turn(
+    n: usize,
+    marks: &[u8],
+    s: usize,
+    arrival: u64,
+    head: usize,
+    work: &mut [u64],
+) -> usize
     requires { ⌜ (n ≤ length (now marks)) × (s < n + n) × (8 * n ≤ length (now work)) ⌝ }
-    ensures { λ r. ⌜ now (work .exit) ≡ turned (now (marks .entry)) n s arrival (now (work .entry)) ⌝ }
+    ensures { λ r. ⌜ now (work .exit) ≡ turned (now (marks .entry)) n s arrival head (now (work .entry)) ⌝ }
+    ensures { λ r. ⌜ Rechained (n + n) (now (work .entry)) head (now (work .exit)) r ⌝ }
 {
     if s < n {
         if marks[s] == 1 {
-            offer_to(work, n + s, arrival, 0);
+            return offer_to(work, head, n + s, arrival, 0);
         }
     }
+    head
 }
 
 // All offers of state s, which is settled at `arrival`: the turn, then its own edges in rising order.
@@ -104,26 +117,29 @@ fn offer_arcs(
     marks: &[u8],
     s: usize,
     arrival: u64,
+    head: usize,
     work: &mut [u64],
-)
+) -> usize
     requires { ⌜ Ready (now v) t (c .junctions) (now marks) s ⌝ }
     requires { ⌜ Counted (volumeOf (now v)) c ⌝ }
     requires { ⌜ Linked (volumeOf (now v)) (now first) (now next) ⌝ }
     requires { ⌜ (arrival < 2 ^ 62) × (8 * c .junctions ≤ length (now work)) ⌝ }
     ensures { λ r. ⌜ Does (volumeOf (now (v .entry))) (now (marks .entry)) (now (work .entry)) (now (work .exit)) (λ W. relax W s arrival (W .arcs)) ⌝ }
+    ensures { λ r. ⌜ Rechained (c .junctions + c .junctions) (now (work .entry)) head (now (work .exit)) r ⌝ }
 {
     let n = c.junctions;
     let edges = c.edges;
     let u = place(n, s);
-    offer_turn(n, marks, s, arrival, work);
+    let mut front = offer_turn(n, marks, s, arrival, head, work);
     let mut e = first[u] as usize;
     while e < edges {
-        offer_edge(v, t, n, marks, s, e, arrival, work);
+        front = offer_edge(v, t, n, marks, s, e, arrival, front, work);
         e = next[e] as usize;
     }
+    front
 }
 
-// One unit: settles state s, which waits with `arrival`, and makes its offers.
+// One unit: settles state s, which waits with `arrival` and comes in the chain after `before`, and makes its offers.
 pub fn settle_state(
     v: &[u8],
     t: Tables,
@@ -133,16 +149,21 @@ pub fn settle_state(
     marks: &[u8],
     s: usize,
     arrival: u64,
+    before: usize,
+    head: usize,
     work: &mut [u64],
-)
+) -> usize
     requires { ⌜ Ready (now v) t (c .junctions) (now marks) s ⌝ }
     requires { ⌜ Counted (volumeOf (now v)) c ⌝ }
     requires { ⌜ Linked (volumeOf (now v)) (now first) (now next) ⌝ }
     requires { ⌜ (arrival < 2 ^ 62) × (8 * c .junctions ≤ length (now work)) ⌝ }
-    requires { ⌜ Waits (labels (statesOf (volumeOf (now v))) (now work) s) arrival ⌝ }
+    requires { ⌜ WaitsAt (now work) s ⌝ }
+    requires { ⌜ Chained (c .junctions + c .junctions) (now work) head ⌝ }
+    requires { ⌜ Precedes (c .junctions + c .junctions) (now work) head before s ⌝ }
     ensures { λ r. ⌜ Does (volumeOf (now (v .entry))) (now (marks .entry)) (now (work .entry)) (now (work .exit)) (λ W. settle W s arrival) ⌝ }
+    ensures { λ r. ⌜ Chained (c .junctions + c .junctions) (now (work .exit)) r ⌝ }
 {
-    let at = STATE * s;
-    work[at] = SETTLED;
-    offer_arcs(v, t, c, first, next, marks, s, arrival, work);
+    let n = c.junctions;
+    let front = take_out(work, n + n, head, s, before);
+    offer_arcs(v, t, c, first, next, marks, s, arrival, front, work)
 }

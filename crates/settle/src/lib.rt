@@ -3,8 +3,7 @@
 // search are the crate `search`'s.
 use crate::arcs::settle_state;
 use crate::labels::STATE;
-use crate::labels::WAITING;
-use crate::labels::put_label;
+use crate::labels::offer_to;
 use crate::marks::mark;
 use crate::seen::View;
 use crate::seen::see;
@@ -77,18 +76,18 @@ fn units(
     let states = n + n;
     let home = n + to;
     clear(work, STATE * states);
-    put_label(work, from, WAITING, departure, 0);
+    let mut head = offer_to(work, states, from, departure, 0);
     let mut used: u64 = 0;
     loop {
-        let view = see(work, states, home);
+        let view = see(work, states, head, home);
         match view {
             View::NothingWaits => return Outcome::NoWay(used),
             View::Destination(arrival) => return Outcome::Closed(arrival, used),
-            View::Next(s, arrival) => {
+            View::Next(s, arrival, before) => {
                 if used == budget {
                     return Outcome::Open(arrival, upper(work, home), used);
                 }
-                settle_state(v, t, c, first, next, marks, s, arrival, work);
+                head = settle_state(v, t, c, first, next, marks, s, arrival, before, head, work);
                 used += 1;
             }
         }

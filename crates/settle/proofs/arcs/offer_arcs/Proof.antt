@@ -6,6 +6,7 @@ use borrow.Author.Needs.{needs}
 use Rattle.settle.specs.Edges.{OnWalk, on-walk}
 use Rattle.settle.specs.Walk.{turn-offered, walk-begins, walk-more, walk-ends}
 use Rattle.settle.specs.Arcs.{webOf, statesOf, placeOf, place-below}
+use Rattle.settle.specs.Chain.{Rechained}
 use Rattle.settle.specs.Marked.{MarksBelow}
 use Rattle.settle.specs.Work.{labels, Holds}
 use Rattle.volume.specs.Index.{next-low, link-next}
@@ -15,15 +16,16 @@ use Rattle.settle.proofs.arcs.offer_arcs.Statement.{statement}
 use Rattle.settle.proofs.arcs.offer_arcs.Tie as tie
 
 abbrev Inv-loop : tie.InvT-loop
-Inv-loop v t first next marks s arrival work₀ n edges u e₀ work e =
+Inv-loop v t first next marks s arrival head work₀ n edges u front₀ e₀ work front e =
     OnWalk (volumeOf v) u e
     × (length work ≡ length work₀)
     × ((d : ℕ) → MarksBelow (volumeOf v) d (volumeOf v .junctions) marks → (L : Table)
     → labels (statesOf (volumeOf v)) work₀ ≡ relax (webOf (volumeOf v) d) s arrival 1 L
     → Holds (statesOf (volumeOf v)) work₀ work (relax (webOf (volumeOf v) d) s arrival (suc e) L))
+    × Rechained (n + n) work₀ front₀ work front
 
 abbrev μ-loop : tie.MeasureT-loop
-μ-loop v t first next marks s arrival work₀ n edges u e₀ work e = edges - e
+μ-loop v t first next marks s arrival head work₀ n edges u front₀ e₀ work front e = edges - e
 
 place-requires : tie.Need-place-requires Inv-loop μ-loop
 place-requires c κs = search needs
@@ -62,6 +64,7 @@ loop-holds c =
       on-walk vol u 0 _ (omega arith) is,
       refl,
       λ d m L q. walk-begins vol d (s .args .s) (s .args .arrival) u (p .ensures ∙ ap (λ (n : ℕ). placeOf n (s .args .s)) (R .count)) L _ _ q is,
+      λ C. C,
     )
 
 offer-edge-requires : tie.Need-offer-edge-requires Inv-loop μ-loop
@@ -117,7 +120,8 @@ loop-again c =
     let one = c .before .before .before .offer-edge in (
       on-walk vol (p .result) (e + 1) _ (omega arith) is,
       omega (arith, one .kept, l .loop .inv .1),
-      λ d m L q. walk-more vol d (s .args .s) (s .args .arrival) (p .result) (p .ensures ∙ ap (λ (n : ℕ). placeOf n (s .args .s)) (R .count)) L _ e _ (l .loop .work) _ lt is (l .loop .inv .2 d m L q) (one .ensures d m),
+      λ d m L q. walk-more vol d (s .args .s) (s .args .arrival) (p .result) (p .ensures ∙ ap (λ (n : ℕ). placeOf n (s .args .s)) (R .count)) L _ e _ (l .loop .work) _ lt is (l .loop .inv .2 d m L q) (one .ensures .0 d m),
+      λ C. one .ensures .1 (l .loop .inv .3 C),
     )
 
 same-length : tie.Need-same-length Inv-loop μ-loop
@@ -132,10 +136,12 @@ returns c =
     let vol = volumeOf (s .args .v .now) in
     let R = s .pre .0 in
     let t = l .before .before .before .before .offer-turn in
-    let end : l .loop .e ≡ vol .edges = omega (arith, c .loop-test .left, l .loop .inv .0 .high, s .pre .1 .0 .edges) in
-    λ d m. walk-ends vol d (s .args .s) (s .args .arrival) (l .loop .e) (s .args .work .now) _ _ end
-    (turn-offered vol d (s .args .s) (s .args .arrival) (s .args .c .junctions) (s .args .marks .now) (s .args .work .now) _ (R .count) (s .pre .1 .1 .1 .1) m (t .ensures))
-    (l .loop .inv .2 d m)
+    let end : l .loop .e ≡ vol .edges = omega (arith, c .loop-test .left, l .loop .inv .0 .high, s .pre .1 .0 .edges) in (
+      λ d m. walk-ends vol d (s .args .s) (s .args .arrival) (l .loop .e) (s .args .work .now) _ _ end
+          (turn-offered vol d (s .args .s) (s .args .arrival) (s .args .c .junctions) (s .args .head) (s .args .marks .now) (s .args .work .now) _ (R .count) (s .pre .1 .1 .1 .1) m (t .ensures .0))
+          (l .loop .inv .2 d m),
+      λ C. l .loop .inv .3 (t .ensures .1 C),
+    )
 
 pub offer-arcs-spec : {M : Type 1} → statement M
 offer-arcs-spec =

@@ -4,6 +4,7 @@ use native.Mathlib.Numerals.{add-one}
 use native.Mathlib.Omega.{arith}
 use borrow.Author.Needs.{needs}
 use Rattle.settle.specs.Arcs.{webOf, statesOf, lead-below, arc-skipped, arc-settled, arc-offered, enters-soon, arrives-soon}
+use Rattle.settle.specs.Offered.{rechained-offer}
 use Rattle.volume.specs.Format.{volumeOf}
 use Rattle.settle.proofs.arcs.offer_edge.Statement.{statement}
 use Rattle.settle.proofs.arcs.offer_edge.Tie as tie
@@ -20,9 +21,11 @@ enum-told c = search needs
 returns : tie.Need-returns
 returns c =
     let s = c .before .before .before .before .before .before in
-    let vol = volumeOf (s .args .v .now) in
-    λ d m. arc-skipped (webOf vol d) (statesOf vol) (s .args .s) (s .args .arrival) (suc (s .args .e)) (s .args .work .now)
-    (sym (c .enum-told .given .1) ∙ c .before .before .lead-of .ensures .1 d m)
+    let vol = volumeOf (s .args .v .now) in (
+      λ d m. arc-skipped (webOf vol d) (statesOf vol) (s .args .s) (s .args .arrival) (suc (s .args .e)) (s .args .work .now)
+          (sym (c .enum-told .given .1) ∙ c .before .before .lead-of .ensures .1 d m),
+      λ C. C,
+    )
 
 mul-at : tie.Need-mul-at
 mul-at c =
@@ -74,9 +77,12 @@ returns-2 c =
     let vol = volumeOf (s .args .v .now) in
     let R = s .pre .0 in
     let below = lead-below (s .args .n + s .args .n) _ _ (g .to .given .1) (g .before .before .lead-of .ensures .0) in
-    λ d m. arc-offered (webOf vol d) (statesOf vol) (s .args .s) (s .args .arrival) (suc (s .args .e)) (s .args .work .now) _
-    (sym (g .to .given .1) ∙ g .before .before .lead-of .ensures .1 d m) (omega (arith, R .count)) _ _ _
-    (c .before .before .before .before .edge-duration .ensures) (add-one (s .args .e)) (omega (arith, R .count, s .pre .1 .1 .1)) (c .before .before .offer-to .ensures)
+    let o = c .before .before .offer-to in (
+      λ d m. arc-offered (webOf vol d) (statesOf vol) (s .args .s) (s .args .arrival) (suc (s .args .e)) (s .args .work .now) _
+          (sym (g .to .given .1) ∙ g .before .before .lead-of .ensures .1 d m) (omega (arith, R .count)) (s .args .head) _ _ _
+          (c .before .before .before .before .edge-duration .ensures) (add-one (s .args .e)) (omega (arith, R .count, s .pre .1 .1 .1)) (o .ensures .0),
+      rechained-offer (s .args .n + s .args .n) (s .args .work .now) (s .args .head) _ _ _ below (omega (arith, s .pre .1 .1 .1)) _ _ (o .ensures .0) (o .ensures .1),
+    )
 
 returns-3 : tie.Need-returns-3
 returns-3 c =
@@ -84,9 +90,11 @@ returns-3 c =
     let s = g .before .before .before .before .before .before in
     let vol = volumeOf (s .args .v .now) in
     let R = s .pre .0 in
-    let below = lead-below (s .args .n + s .args .n) _ _ (g .to .given .1) (g .before .before .lead-of .ensures .0) in
-    λ d m. arc-settled (webOf vol d) (statesOf vol) (s .args .s) (s .args .arrival) (suc (s .args .e)) (s .args .work .now) _
-    (sym (g .to .given .1) ∙ g .before .before .lead-of .ensures .1 d m) (omega (arith, R .count)) (c .if1 .left)
+    let below = lead-below (s .args .n + s .args .n) _ _ (g .to .given .1) (g .before .before .lead-of .ensures .0) in (
+      λ d m. arc-settled (webOf vol d) (statesOf vol) (s .args .s) (s .args .arrival) (suc (s .args .e)) (s .args .work .now) _
+          (sym (g .to .given .1) ∙ g .before .before .lead-of .ensures .1 d m) (omega (arith, R .count)) (c .if1 .left),
+      λ C. C,
+    )
 
 pub offer-edge-spec : {M : Type 1} → statement M
 offer-edge-spec =

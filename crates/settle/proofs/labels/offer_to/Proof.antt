@@ -1,6 +1,9 @@
-use mathlib.Core.Path.{sym, _∙_}
+use Prim.Native.Nat.{ℕ, _+_, _*_}
+use mathlib.Core.Path.{sym, _∙_, ap}
+use mathlib.Core.List.{List}
+use lib.ListN.{set}
 use borrow.Author.Needs.{needs}
-use Rattle.settle.specs.Offered.{offer-fresh, offer-sooner, offer-later, offer-settled}
+use Rattle.settle.specs.Offered.{offer-fresh, offer-sooner, offer-later, offer-settled, head-fresh, head-stays}
 use Rattle.settle.proofs.labels.offer_to.Statement.{statement}
 use Rattle.settle.proofs.labels.offer_to.Tie as tie
 
@@ -16,13 +19,26 @@ slice-read-kind c = search needs
 put-label-requires : tie.Need-put-label-requires
 put-label-requires c κs = search needs
 
+add-work : tie.Need-add-work
+add-work c = search needs
+
+mul-work : tie.Need-mul-work
+mul-work c = search needs
+
+slice-write-work : tie.Need-slice-write-work
+slice-write-work c = search needs
+
 same-length : tie.Need-same-length
 same-length c = search needs
 
 returns : tie.Need-returns
 returns c =
-    let a = c .before .before .before .before .before .before .before .args in
-    c .before .before .put-label .ensures ∙ sym (offer-fresh (a .work .now) (a .s) (a .arrival) (a .arc) (c .before .before .before .before .if1 .taken))
+    let p = c .before .before in
+    let i = p .before .before .if1 .taken in
+    let a = p .before .before .before .before .before .args in (
+      ap (λ (f : List ℕ). set f (4 * a .s + 3) (a .head)) (p .put-label .ensures) ∙ sym (offer-fresh (a .work .now) (a .head) (a .s) (a .arrival) (a .arc) i),
+      sym (head-fresh (a .work .now) (a .head) (a .s) i),
+    )
 
 add-if3 : tie.Need-add-if3
 add-if3 c = search needs
@@ -42,18 +58,26 @@ same-length-2 c = search needs
 returns-2 : tie.Need-returns-2
 returns-2 c =
     let i = c .before .before .before .before in
-    let a = i .before .before .before .before .before .before .args in
-    c .before .before .put-label2 .ensures ∙ sym (offer-sooner (a .work .now) (a .s) (a .arrival) (a .arc) (i .before .before .if2 .taken) (i .if3 .taken))
+    let k = i .before .before in
+    let a = k .before .before .before .before .args in (
+      c .before .before .put-label2 .ensures ∙ sym (offer-sooner (a .work .now) (a .head) (a .s) (a .arrival) (a .arc) (k .if2 .taken) (i .if3 .taken)),
+      sym (head-stays (a .work .now) (a .head) (a .s) (k .before .if1 .left)),
+    )
 
 returns-3 : tie.Need-returns-3
 returns-3 c =
-    let a = c .before .before .before .before .before .before .args in
-    sym (offer-later (a .work .now) (a .s) (a .arrival) (a .arc) (c .before .before .if2 .taken) (c .if3 .left))
+    let k = c .before .before in
+    let a = k .before .before .before .before .args in (
+      sym (offer-later (a .work .now) (a .head) (a .s) (a .arrival) (a .arc) (k .if2 .taken) (c .if3 .left)),
+      sym (head-stays (a .work .now) (a .head) (a .s) (k .before .if1 .left)),
+    )
 
 returns-4 : tie.Need-returns-4
 returns-4 c =
-    let a = c .before .before .before .before .args in
-    sym (offer-settled (a .work .now) (a .s) (a .arrival) (a .arc) (c .before .if1 .left) (c .if2 .left))
+    let a = c .before .before .before .before .args in (
+      sym (offer-settled (a .work .now) (a .head) (a .s) (a .arrival) (a .arc) (c .before .if1 .left) (c .if2 .left)),
+      sym (head-stays (a .work .now) (a .head) (a .s) (c .before .if1 .left)),
+    )
 
 pub offer-to-spec : {M : Type 1} → statement M
 offer-to-spec =
@@ -63,6 +87,9 @@ offer-to-spec =
     mul-kind
     slice-read-kind
     put-label-requires
+    add-work
+    mul-work
+    slice-write-work
     same-length
     returns
     add-if3
