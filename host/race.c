@@ -88,18 +88,34 @@ struct times {
     double side[SIDES]; /* seconds for one call */
 };
 
-/* The medians of so many rounds of so many calls. */
-static struct times race(uint64_t (*job)(int side), uint32_t rounds, uint32_t calls) {
-    static double round[SIDES][MOST_ROUNDS];
-    uint64_t answers[SIDES] = {0, 0};
-    struct times median;
+/* A job's whole time, and what is left of it without opening the volume. */
+struct raced {
+    struct times whole, after;
+};
+
+static double time_calls(uint64_t (*job)(int side), int side, uint32_t calls, uint64_t *answers) {
+    double began = seconds();
+    for (uint32_t k = 0; k < calls; k++) *answers += job(side);
+    return (seconds() - began) / calls;
+}
+
+static double median(double *round, uint32_t rounds) {
+    qsort(round, rounds, sizeof(double), rising);
+    return round[rounds / 2];
+}
+
+/* The medians of so many rounds of so many calls. The opening that is taken off
+   is timed in the same round, since a machine's pace drifts. */
+static struct raced race(uint64_t (*job)(int side), uint32_t rounds, uint32_t calls) {
+    static double whole[SIDES][MOST_ROUNDS], after[SIDES][MOST_ROUNDS];
+    uint64_t answers[SIDES] = {0, 0}, opened = 0;
+    struct raced medians;
     uint32_t start = number;
     for (uint32_t i = 0; i < rounds; i++) {
         for (int side = 0; side < SIDES; side++) {
             number = start;
-            double began = seconds();
-            for (uint32_t k = 0; k < calls; k++) answers[side] += job(side);
-            round[side][i] = (seconds() - began) / calls;
+            whole[side][i] = time_calls(job, side, calls, &answers[side]);
+            after[side][i] = whole[side][i] - time_calls(opening, side, calls, &opened);
         }
     }
     if (answers[LIBRARY] != answers[TWIN]) {
@@ -107,16 +123,12 @@ static struct times race(uint64_t (*job)(int side), uint32_t rounds, uint32_t ca
         exit(1);
     }
     for (int side = 0; side < SIDES; side++) {
-        qsort(round[side], rounds, sizeof(double), rising);
-        median.side[side] = round[side][rounds / 2];
+        medians.whole.side[side] = median(whole[side], rounds);
+        medians.after.side[side] = median(after[side], rounds);
     }
     number = start;
-    sum += answers[TWIN];
-    return median;
-}
-
-static struct times without(struct times whole, struct times part) {
-    return (struct times){{whole.side[0] - part.side[0], whole.side[1] - part.side[1]}};
+    sum += answers[TWIN] + opened;
+    return medians;
 }
 
 static void print_row(const char *what, uint32_t n, struct times t) {
@@ -132,7 +144,7 @@ static void print_row(const char *what, uint32_t n, struct times t) {
 static void measure_limits(struct dice *d) {
     gen_limits(&net, d);
     length = net_write(&net, volume);
-    print_row("opening, all limits", net.n, race(opening, 21, 4));
+    print_row("opening, all limits", net.n, race(opening, 21, 4).whole);
 }
 
 /* One road of many points in a volume of one block: opening is short there. */
@@ -142,18 +154,18 @@ static void measure_road(void) {
     for (uint32_t i = 0; i < 50; i++) net_add_point(&net, 1700 * i, 100 + 37 * i % 90);
     length = net_write(&net, volume);
     number = 0;
-    struct times open = race(opening, 31, 20000), whole = race(road_time, 31, 20000);
-    print_row("a road's time, with opening", net.n, whole);
-    print_row("a road's time, after opening", net.n, without(whole, open));
+    struct raced road = race(road_time, 31, 20000);
+    print_row("a road's time, with opening", net.n, road.whole);
+    print_row("a road's time, after opening", net.n, road.after);
 }
 
 static void measure_edge(struct dice *d) {
     gen_ladder(&net, d, 14);
     length = net_write(&net, volume);
     number = net.e - 1;
-    struct times open = race(opening, 31, 200), whole = race(edge_time, 31, 100);
-    print_row("an edge's time, span 4,096, with opening", net.n, whole);
-    print_row("an edge's time, span 4,096, after opening", net.n, without(whole, open));
+    struct raced edge = race(edge_time, 31, 100);
+    print_row("an edge's time, span 4,096, with opening", net.n, edge.whole);
+    print_row("an edge's time, span 4,096, after opening", net.n, edge.after);
 }
 
 static int make_map(struct dice *d, uint32_t width, uint32_t height) {
@@ -171,19 +183,19 @@ static int make_map(struct dice *d, uint32_t width, uint32_t height) {
 static void measure_search(struct dice *d, uint32_t width, uint32_t height) {
     if (!make_map(d, width, height)) exit(1);
     number = 0;
-    struct times open = race(opening, 31, QUESTIONS), whole = race(search, 31, QUESTIONS);
-    struct times roads = race(bare, 11, QUESTIONS), after = without(whole, open);
-    print_row("a search, with opening", net.n, whole);
-    print_row("a search, after opening", net.n, after);
+    struct raced found = race(search, 31, QUESTIONS);
+    struct times roads = race(bare, 11, QUESTIONS).whole;
+    print_row("a search, with opening", net.n, found.whole);
+    print_row("a search, after opening", net.n, found.after);
     print_row("a search, after opening; for the twin: the search over the bare roads", net.n,
-              (struct times){{after.side[LIBRARY], roads.side[TWIN]}});
+              (struct times){{found.after.side[LIBRARY], roads.side[TWIN]}});
 }
 
 /* The check skips where a piece is the very road or pair it is held against; how
    often that is depends on how many ways compete, hence maps of several shapes. */
 static void measure_check(struct dice *d, const char *what, uint32_t width, uint32_t height) {
     if (!make_map(d, width, height)) exit(1);
-    print_row(what, net.n, race(check, 3, 1));
+    print_row(what, net.n, race(check, 3, 1).whole);
 }
 
 int main(void) {
