@@ -31,11 +31,6 @@ unfoldable pub edgeTimeOf : List ℕ → ℕ → ℕ → Timing
 edgeTimeOf v edge departure =
     opening (openOf v) (timed (volumeOf v .edges) edge (arrival (volumeOf v) edge departure - departure))
 
--- the document's number of each answer, 0 or the refusal's, and its value, the duration or the place
-abbrev pub paper : Timing → ℕ × ℕ
-paper (Lasts d) = (0, d)
-paper (Refused number place) = (number, place)
-
 -- the contracts of the two travel times allow one answer
 
 pub one-road-time : (v : List ℕ) (road departure : ℕ) (r s : Timing) → r ≡ roadTimeOf v road departure → s ≡ roadTimeOf v road departure → r ≡ s

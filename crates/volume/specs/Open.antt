@@ -34,11 +34,6 @@ openOf v =
     (Refused 2 (firstBad v blocks)))
     (Refused 1 0)
 
--- the document's number of each answer: 0, or the refusal's
-abbrev pub paper : Opening → ℕ
-paper (Opened c) = 0
-paper (Refused number place) = number
-
 -- the contract of opening allows one answer
 pub one-opening : (v : List ℕ) (r s : Opening) → r ≡ openOf v → s ≡ openOf v → r ≡ s
 one-opening v r s p q = p ∙ sym q

@@ -1,4 +1,5 @@
--- What a sound volume obeys, as named facts about its functions. Everything above opening uses these and no rule's text.
+-- What a sound volume obeys, as named facts about its functions: as much of it as the crates above opening use, and no rule's text. That
+-- a volume is sound, with nothing left out, is that it opens: `openOf` of Open answers `Opened`.
 use Prim.Native.Nat.{ℕ, _+_, _-_, _≤_, _<_}
 use mathlib.Core.Path.{_≡_}
 use mathlib.Core.Logic.{_≢_}

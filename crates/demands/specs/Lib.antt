@@ -1,0 +1,2 @@
+-- What a volume that passes the full check promises.
+pub mod Promises
