@@ -136,27 +136,38 @@ void gen_sound(struct net *net, struct dice *d, uint32_t n) {
     }
 }
 
+/* So many points, one after the other through the day. */
+static void add_even_points(struct net *net, struct dice *d, uint32_t points) {
+    for (uint32_t i = 0; i < points; i++) net_add_point(net, DAY / points * i, 1 + below(d, 50));
+}
+
+/* An edge whose pieces, so many through the day, are all the same. */
+static uint32_t add_same_edge(struct net *net, uint32_t from, uint32_t to, uint32_t pieces, uint32_t left,
+                              uint32_t right) {
+    uint32_t edge = net->e;
+    net_add_edge(net, from, to);
+    for (uint32_t i = 0; i < pieces; i++) net_add_piece(net, DAY / pieces * i, left, right);
+    return edge;
+}
+
 /* Every two of n junctions joined, each edge by the highest middle below its
-   ends, so that the span doubles with the rank of the lower end: 4,096 at 12. */
-void gen_ladder(struct net *net, struct dice *d, uint32_t n) {
+   ends, so that the span doubles with the rank of the lower end: 4,096 at 12.
+   Roads have so many points and edges so many pieces. */
+void gen_ladder(struct net *net, struct dice *d, uint32_t n, uint32_t parts) {
     static uint32_t edge[SOUND_JUNCTIONS][SOUND_JUNCTIONS];
     net_start(net, n);
     for (uint32_t w = 1; w < n; w++) {
         net_add_road(net, 0, w);
-        net_add_point(net, 0, 1 + below(d, 50));
+        add_even_points(net, d, parts);
         net_add_road(net, w, 0);
-        net_add_point(net, 0, 1 + below(d, 50));
+        add_even_points(net, d, parts);
     }
     for (uint32_t m = 0; m < n; m++) {
         for (uint32_t w = m + 1; w < n; w++) {
-            edge[m][w] = net->e;
-            net_add_edge(net, m, w);
-            net_add_piece(net, 0, m == 0 ? 2 * (w - 1) : edge[m][m - 1],
-                          m == 0 ? EMPTY_MIDDLE : edge[m - 1][w]);
-            edge[w][m] = net->e;
-            net_add_edge(net, w, m);
-            net_add_piece(net, 0, m == 0 ? 2 * (w - 1) + 1 : edge[w][m - 1],
-                          m == 0 ? EMPTY_MIDDLE : edge[m - 1][m]);
+            edge[m][w] = add_same_edge(net, m, w, parts, m == 0 ? 2 * (w - 1) : edge[m][m - 1],
+                                       m == 0 ? EMPTY_MIDDLE : edge[m - 1][w]);
+            edge[w][m] = add_same_edge(net, w, m, parts, m == 0 ? 2 * (w - 1) + 1 : edge[w][m - 1],
+                                       m == 0 ? EMPTY_MIDDLE : edge[m - 1][m]);
         }
     }
 }

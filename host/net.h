@@ -53,7 +53,7 @@ void gen_roads(struct net *net, struct dice *d, uint32_t n, uint32_t roads);
 void gen_diamond(struct net *net, struct dice *d, uint32_t middles);
 void gen_sound(struct net *net, struct dice *d, uint32_t n);
 void gen_grid(struct net *net, struct dice *d, uint32_t width, uint32_t height, uint32_t changing);
-void gen_ladder(struct net *net, struct dice *d, uint32_t n);
+void gen_ladder(struct net *net, struct dice *d, uint32_t n, uint32_t parts);
 void gen_limits(struct net *net, struct dice *d);
 
 /* damage.c: changes that mostly keep a network sound; one rule put at or over its

@@ -159,13 +159,15 @@ static void measure_road(void) {
     print_row("a road's time, after opening", net.n, road.after);
 }
 
-static void measure_edge(struct dice *d) {
-    gen_ladder(&net, d, 14);
+/* An edge of the greatest span, where each edge has so many pieces and each road
+   so many points: with one, nothing is left to do but to follow numbers. */
+static void measure_edge(struct dice *d, const char *whole, const char *after, uint32_t parts) {
+    gen_ladder(&net, d, 14, parts);
     length = net_write(&net, volume);
     number = net.e - 1;
     struct raced edge = race(edge_time, 31, 100);
-    print_row("an edge's time, span 4,096, with opening", net.n, edge.whole);
-    print_row("an edge's time, span 4,096, after opening", net.n, edge.after);
+    print_row(whole, net.n, edge.whole);
+    print_row(after, net.n, edge.after);
 }
 
 static int make_map(struct dice *d, uint32_t width, uint32_t height) {
@@ -203,7 +205,10 @@ int main(void) {
     printf("| measured | N | blocks | library | twin | ratio |\n|---|---|---|---|---|---|\n");
     measure_limits(&dice);
     measure_road();
-    measure_edge(&dice);
+    measure_edge(&dice, "an edge's time, span 4,096, 24 pieces each, with opening",
+                 "an edge's time, span 4,096, 24 pieces each, after opening", 24);
+    measure_edge(&dice, "an edge's time, span 4,096, one piece each, with opening",
+                 "an edge's time, span 4,096, one piece each, after opening", 1);
     measure_search(&dice, 10, 10);
     measure_search(&dice, 15, 20);
     measure_search(&dice, 32, 32);

@@ -39,7 +39,7 @@ int make_volume(struct net *net, struct dice *d, uint8_t *page, size_t *length) 
 
 /* An edge of span 4,097: 4,096 down to junction 12, and one road on. */
 static void make_span_over(struct net *net, struct dice *d) {
-    gen_ladder(net, d, 14);
+    gen_ladder(net, d, 14, 1);
     uint32_t down = net->e - 1; /* 13 to 12, the last of the ladder */
     net->n = 15;
     net_add_road(net, 12, 14);
@@ -60,7 +60,7 @@ void make_limit(struct net *net, struct dice *d, uint32_t which, uint8_t *page, 
     case 4: net->edge[net->e++] = (struct twin_edge){1, 2, net->q, 0, 0}; break;
     case 5: net_add_piece(net, DAY - 1, net->e - 2, EMPTY_MIDDLE); break;
     case 6: net->piece[net->q - 1].start = DAY; break;
-    case 7: gen_ladder(net, d, 14); break;
+    case 7: gen_ladder(net, d, 14, 1); break;
     case 8: make_span_over(net, d); break;
     default: break;
     }

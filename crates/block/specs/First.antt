@@ -142,3 +142,11 @@ all-stop p n k lt e h = ne-eqb (firstNot p n 0) n (λ z. let q = first-stop p n 
 
 pub all-end : (p : ℕ → Bool) (n k : ℕ) → n ≤ k → k ≤ n → Passed p n k → allBelow n p ≡ true
 all-end p n k le ge h = eq-eqb (firstNot p n 0) n (let q = first-end p n k le h in omega arith)
+
+-- all before the last have passed: the last decides
+pub all-last : (p : ℕ → Bool) (n k : ℕ) → k + 1 ≡ n → Passed p n k → allBelow n p ≡ p k
+all-last p n k e h = go (p k) refl
+  where
+    go : (t : Bool) → p k ≡ t → allBelow n p ≡ t
+    go true q = all-end p n (k + 1) (omega arith) (omega arith) (first-go p n k (omega arith) q h)
+    go false q = all-stop p n k (omega arith) q h

@@ -1,6 +1,6 @@
 -- A good block carries its own sums, and the first bad block is what opening asks for.
 use Prim.Native.Nat.{ℕ}
-use mathlib.Core.Path.{_≡_, _∙_, sym}
+use mathlib.Core.Path.{_≡_, _∙_, sym, ap₂}
 use mathlib.Core.Bool.{Bool, true, false}
 use mathlib.Core.List.{List}
 use lib.Dec.{eqb}
@@ -42,10 +42,6 @@ module _ (v : List ℕ) (k : ℕ) (s : Sums) (h : Summed v k s) (x y : ℕ) wher
   a-differs hx ne = both-no _ (ne-eqb _ _ (λ z. ne (h .a-is ∙ z ∙ sym hx)))
 
   module _ (hx : x ≡ blockWord v k 126) (e : s .a ≡ x) (hy : y ≡ blockWord v k 127) where
-    pub b-differs : (s .b ≡ y → ⊥) → good v k ≡ false
+    pub b-decides : eqb (s .b) y ≡ good v k
     unfolding good
-    b-differs ne = both-yes _ (eq-eqb _ _ (sym (h .a-is) ∙ e ∙ hx)) ∙ ne-eqb _ _ (λ z. ne (h .b-is ∙ z ∙ sym hy))
-
-    pub neither-differs : s .b ≡ y → good v k ≡ true
-    unfolding good
-    neither-differs f = both-yes _ (eq-eqb _ _ (sym (h .a-is) ∙ e ∙ hx)) ∙ eq-eqb _ _ (sym (h .b-is) ∙ f ∙ hy)
+    b-decides = sym (both-yes _ (eq-eqb _ _ (sym (h .a-is) ∙ e ∙ hx)) ∙ ap₂ eqb (sym (h .b-is)) (sym hy))

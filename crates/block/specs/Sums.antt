@@ -23,10 +23,19 @@ checkA v k = sumA (blockWord v k) k 126
 abbrev pub checkB : List ℕ → ℕ → ℕ
 checkB v k = sumB (blockWord v k) k 126
 
+-- s is A and B of block k after the first n of its words
+pub record SummedTo (v : List ℕ) (k n : ℕ) (s : Sums) : Type 0 where
+  pub a-is : s .a ≡ sumA (blockWord v k) k n
+  pub b-is : s .b ≡ sumB (blockWord v k) k n
+
 -- s is A and B of block k
-pub record Summed (v : List ℕ) (k : ℕ) (s : Sums) : Type 0 where
-  pub a-is : s .a ≡ checkA v k
-  pub b-is : s .b ≡ checkB v k
+abbrev pub Summed : List ℕ → ℕ → Sums → Type 0
+Summed v k s = SummedTo v k 126 s
+
+-- r is s with one word x more
+pub record Gained (s : Sums) (x : ℕ) (r : Sums) : Type 0 where
+  pub a-is : r .a ≡ (s .a + x) % 2 ^ 32
+  pub b-is : r .b ≡ (s .b + r .a) % 2 ^ 32
 
 -- one word more
 
@@ -38,3 +47,20 @@ pub sumB-next : (f : ℕ → ℕ) (k n : ℕ) → sumB f k (n + 1) ≡ (sumB f k
 unfolding sumB
 sumB-next f k n =
     ap (sumB f k) (add-one n) ∙ ap (λ (m : ℕ). (sumB f k n + sumA f k m) % 2 ^ 32) (sym (add-one n))
+
+-- a loop over the words
+
+pub summed-start : (v : List ℕ) (k : ℕ) (s : Sums) → s .a ≡ k + 1 → s .b ≡ 0 → SummedTo v k 0 s
+unfolding sumA sumB
+summed-start v k s a b = record { a-is = a; b-is = b }
+
+pub summed-next : (v : List ℕ) (k n x : ℕ) (s r : Sums) → SummedTo v k n s → x ≡ blockWord v k n → Gained s x r → SummedTo v k (n + 1) r
+summed-next v k n x s r h e g =
+    let f = blockWord v k in
+    let a = sumA-next f k n in
+    let b = sumB-next f k n in
+    let ha = h .a-is in
+    let hb = h .b-is in
+    let ga = g .a-is in
+    let gb = g .b-is in
+    record { a-is = (cc); b-is = (cc) }

@@ -3,13 +3,13 @@
 // crate `volume`.
 use std::num::wrapping_add_u32;
 ghost use mathlib.Core.Path.{_≡_};
-ghost use Prim.Native.Nat.{_+_, _*_, _/_, _≤_, _<_};
+ghost use Prim.Native.Nat.{_+_, _*_, _/_, _%_, _≤_, _<_};
 ghost use lib.ListN.{length};
 ghost use Rattle.block.specs.Word.{wordAt, putWord, contentAt, Holds};
-ghost use Rattle.block.specs.Sums.{Summed};
+ghost use Rattle.block.specs.Sums.{Summed, Gained};
 ghost use Rattle.block.specs.Whole.{whole};
 ghost use Rattle.block.specs.Seal.{sealTo, sealed, sealing};
-ghost use Rattle.block.specs.Good.{firstBad};
+ghost use Rattle.block.specs.Good.{good, firstBad};
 
 // A byte as a wider number: asks nothing of its caller.
 fn wide(x: u8) -> u32
@@ -31,12 +31,38 @@ pub fn word(v: &[u8], i: usize) -> u32
     b0 + 256 * b1 + 65536 * b2 + 16777216 * b3
 }
 
-// Content word w of v: two sums stand behind every 126 content words.
+// Which word content word w is: two sums stand behind every 126 content words. Every record is read through this, so the division
+// is a multiplication and a shift: 532,611 / 2^26 is so little above 1 / 126 that w / 126 comes out for every w of 3,381 blocks.
+fn place(w: usize) -> usize
+    requires { ⌜ w < 426006 ⌝ }
+    ensures { λ r. ⌜ r ≡ w + 2 * (w / 126) ⌝ }
+{
+    w + 2 * (w * 532611 / 67108864)
+}
+
+// Content word w of v.
 pub fn content(v: &[u8], w: usize) -> u32
     requires { ⌜ Holds (now v) w ⌝ }
     ensures { λ r. ⌜ r ≡ contentAt (now (v .entry)) w ⌝ }
 {
-    word(v, w + 2 * (w / 126))
+    word(v, place(w))
+}
+
+pub struct Pair {
+    pub first: u32,
+    pub second: u32,
+}
+
+// Content words w and w + 1 for an even w: a block has an even number of them, so the two stand side by side.
+pub fn content_pair(v: &[u8], w: usize) -> Pair
+    requires { ⌜ (w % 2 ≡ 0) × Holds (now v) (w + 1) ⌝ }
+    ensures { λ r. ⌜ (r .first ≡ contentAt (now (v .entry)) w) × (r .second ≡ contentAt (now (v .entry)) (w + 1)) ⌝ }
+{
+    let at = place(w);
+    Pair {
+        first: word(v, at),
+        second: word(v, at + 1),
+    }
 }
 
 // Writes x as word i of v.
@@ -56,22 +82,62 @@ pub struct Sums {
     pub b: u32,
 }
 
+// The sums of a block and of the next one.
+pub struct TwoSums {
+    pub left: Sums,
+    pub right: Sums,
+}
+
+// The sums of block k before its first word.
+fn start(k: usize) -> Sums
+    requires { ⌜ k < 3381 ⌝ }
+    ensures { λ r. ⌜ (r .a ≡ k + 1) × (r .b ≡ 0) ⌝ }
+{
+    Sums {
+        a: k as u32 + 1,
+        b: 0,
+    }
+}
+
+// The sums with one word more: A gains the word, then B gains A.
+fn gain(s: Sums, x: u32) -> Sums
+    ensures { λ r. ⌜ Gained s x r ⌝ }
+{
+    let a = wrapping_add_u32(s.a, x);
+    let b = wrapping_add_u32(s.b, a);
+    Sums { a, b }
+}
+
 // The sums A and B of block k.
 fn sums_of(v: &[u8], k: usize) -> Sums
     requires { ⌜ 512 * k + 511 < length (now v) ⌝ }
     requires { ⌜ k < 3381 ⌝ }
     ensures { λ r. ⌜ Summed (now (v .entry)) k r ⌝ }
 {
-    let mut a: u32 = k as u32 + 1;
-    let mut b: u32 = 0;
+    let mut s = start(k);
     let mut i: usize = 0;
     while i < 126 {
-        let x = word(v, 128 * k + i);
-        a = wrapping_add_u32(a, x);
-        b = wrapping_add_u32(b, a);
+        s = gain(s, word(v, 128 * k + i));
         i += 1;
     }
-    Sums { a, b }
+    s
+}
+
+// The sums of blocks k and k + 1 in one pass: neither block waits for the other's additions.
+fn sums_of_two(v: &[u8], k: usize) -> TwoSums
+    requires { ⌜ 512 * k + 1023 < length (now v) ⌝ }
+    requires { ⌜ k < 3380 ⌝ }
+    ensures { λ r. ⌜ Summed (now (v .entry)) k (r .left) × Summed (now (v .entry)) (k + 1) (r .right) ⌝ }
+{
+    let mut left = start(k);
+    let mut right = start(k + 1);
+    let mut i: usize = 0;
+    while i < 126 {
+        left = gain(left, word(v, 128 * k + i));
+        right = gain(right, word(v, 128 * (k + 1) + i));
+        i += 1;
+    }
+    TwoSums { left, right }
 }
 
 // Are n bytes 1 to 3,381 whole blocks?
@@ -119,25 +185,39 @@ pub fn seal(v: &mut [u8]) -> Sealing
     Sealing::Refused(1, 0)
 }
 
-// The first of the n blocks of v whose A or B differs from what stands there, or n.
+// Does block k carry its sums s?
+fn carries(v: &[u8], k: usize, s: Sums) -> bool
+    requires { ⌜ 512 * k + 511 < length (now v) ⌝ }
+    requires { ⌜ Summed (now v) k s ⌝ }
+    ensures { λ r. ⌜ r ≡ good (now (v .entry)) k ⌝ }
+{
+    if s.a != word(v, 128 * k + 126) {
+        return false;
+    }
+    s.b == word(v, 128 * k + 127)
+}
+
+// The first of the n blocks of v whose A or B differs from what stands there, or n. Two blocks at a time, then an odd last one.
 pub fn first_bad(v: &[u8], n: usize) -> usize
     requires { ⌜ (512 * n ≤ length (now v)) × (n ≤ 3381) ⌝ }
     ensures { λ r. ⌜ (r ≡ firstBad (now (v .entry)) n) × (r ≤ n) ⌝ }
 {
     let mut k: usize = 0;
-    while k < n {
-        let s = sums_of(v, k);
-        let a = s.a;
-        let b = s.b;
-        let stands = word(v, 128 * k + 126);
-        if a != stands {
+    while k + 1 < n {
+        let s = sums_of_two(v, k);
+        if !carries(v, k, s.left) {
             return k;
         }
-        let stands = word(v, 128 * k + 127);
-        if b != stands {
-            return k;
+        if !carries(v, k + 1, s.right) {
+            return k + 1;
         }
-        k += 1;
+        k += 2;
+    }
+    if k == n {
+        return n;
+    }
+    if carries(v, k, sums_of(v, k)) {
+        return n;
     }
     k
 }

@@ -14,7 +14,7 @@ use Rattle.theory.specs.Settling.{offer, relax, least, settle, look, trail-back
 use Rattle.volume.specs.Format.{volumeOf}
 use Rattle.volume.specs.Rules.{headFits, fewestBlocks, fillerZero, countsRule, endsFit, begins, placed, allObey}
 use Rattle.volume.specs.Rules.{pointFits, nextSecond, nextDuration, pointRule, roadRule}
-use Rattle.volume.specs.Rules.{startFits, roadJoins, pairJoins, sameEnds, newEnds, pieceFits, pieceRule, pieceSpan, greatestSpan, spanRule, edgeRule}
+use Rattle.volume.specs.Rules.{startFits, roadJoins, meet, pairJoins, sameEnds, newEnds, pieceFits, pieceRule, pieceSpan, greatestSpan, spanRule, edgeRule}
 use Rattle.volume.specs.Open.{recordsOf, openOf}
 use Rattle.travel.specs.Last.{lastLe}
 use Rattle.travel.specs.Road.{between, rightSecond, rightDuration, fromPoint, roadDuration}
@@ -30,7 +30,7 @@ unfolding
     choose both firstNot wordAt putWord blockWord contentAt sumA sumB good whole sealed sealTo
     volumeOf headFits fewestBlocks fillerZero countsRule endsFit begins placed allObey
     pointFits nextSecond nextDuration pointRule roadRule
-    startFits roadJoins pairJoins sameEnds newEnds pieceFits pieceRule pieceSpan greatestSpan spanRule edgeRule
+    startFits roadJoins meet pairJoins sameEnds newEnds pieceFits pieceRule pieceSpan greatestSpan spanRule edgeRule
     recordsOf openOf
     lastLe between rightSecond rightDuration fromPoint roadDuration durationAt pieceAt pieceOf networkOf roadTimeOf
     by-depth edge-arr marks marked any roads-of-edge path-of

@@ -94,7 +94,47 @@ fn units(
     }
 }
 
-// Runs the rule from `from` to `to`: what it ends with, and the labels in the first 8 N work numbers, whatever they held before.
+// Runs the rule with the index of the edges in a list that has room for it.
+fn run_indexed(
+    v: &[u8],
+    t: Tables,
+    c: Counts,
+    next: &mut [u16],
+    from: usize,
+    to: usize,
+    departure: u64,
+    budget: u64,
+    work: &mut [u64],
+) -> Outcome
+    requires { ⌜ Laid (now v) t ⌝ }
+    requires { ⌜ Counted (volumeOf (now v)) c ⌝ }
+    requires { ⌜ Few c ⌝ }
+    requires { ⌜ Sound (volumeOf (now v)) ⌝ }
+    requires { ⌜ c .edges ≤ length (now next) ⌝ }
+    requires { ⌜ Question (volumeOf (now v)) from to departure budget (now work) ⌝ }
+    ensures { λ r. ⌜ Ran (volumeOf (now (v .entry))) from to departure budget (now (work .entry)) (now (work .exit)) r ⌝ }
+{
+    let mut first = [0u16; 1024];
+    let mut marks = [0u8; 1024];
+    index_edges(v, t, c, &mut first, next);
+    mark(v, t, c, &first, next, to, &mut marks);
+    units(
+        v,
+        t,
+        c,
+        &first,
+        next,
+        &marks,
+        from,
+        to,
+        departure,
+        budget,
+        work,
+    )
+}
+
+// Runs the rule from `from` to `to`: what it ends with, and the labels in the first 8 N work numbers, whatever they held before. Few
+// edges get a short list for their index, as in opening.
 pub fn run(
     v: &[u8],
     t: Tables,
@@ -109,25 +149,13 @@ pub fn run(
     requires { ⌜ Counted (volumeOf (now v)) c ⌝ }
     requires { ⌜ Few c ⌝ }
     requires { ⌜ Sound (volumeOf (now v)) ⌝ }
-    requires { ⌜ (from < volumeOf (now v) .junctions) × (to < volumeOf (now v) .junctions) × (departure < 2 ^ 32) × (budget < 2 ^ 32) × (8 * volumeOf (now v) .junctions ≤ length (now work)) ⌝ }
+    requires { ⌜ Question (volumeOf (now v)) from to departure budget (now work) ⌝ }
     ensures { λ r. ⌜ Ran (volumeOf (now (v .entry))) from to departure budget (now (work .entry)) (now (work .exit)) r ⌝ }
 {
-    let mut first = [0u16; 1024];
+    if c.edges <= 1024 {
+        let mut next = [0u16; 1024];
+        return run_indexed(v, t, c, &mut next, from, to, departure, budget, work);
+    }
     let mut next = [0u16; 16384];
-    let mut marks = [0u8; 1024];
-    index_edges(v, t, c, &mut first, &mut next);
-    mark(v, t, c, &first, &next, to, &mut marks);
-    units(
-        v,
-        t,
-        c,
-        &first,
-        &next,
-        &marks,
-        from,
-        to,
-        departure,
-        budget,
-        work,
-    )
+    run_indexed(v, t, c, &mut next, from, to, departure, budget, work)
 }

@@ -3,8 +3,7 @@ use crate::last::last_at;
 use volume::tables::PERIOD;
 use volume::tables::POINT_WORDS;
 use volume::tables::Tables;
-use volume::tables::point_duration;
-use volume::tables::point_second;
+use volume::tables::point_at;
 use volume::tables::road_first;
 use volume::tables::road_points;
 ghost use mathlib.Core.Path.{_≡_};
@@ -31,16 +30,19 @@ fn from_point(v: &[u8], t: Tables, first: usize, n: usize, i: usize, x: u64) -> 
     requires { ⌜ LineFrom (volumeOf (now v)) first n i x ⌝ }
     ensures { λ r. ⌜ r ≡ durationOn (volumeOf (now (v .entry))) first n i x ⌝ }
 {
-    let t0 = point_second(v, t, first + i);
-    let f0 = point_duration(v, t, first + i);
+    let a = point_at(v, t, first + i);
     if i + 1 < n {
-        let t1 = point_second(v, t, first + i + 1);
-        let f1 = point_duration(v, t, first + i + 1);
-        return line(t0, f0, t1, f1, x);
+        let b = point_at(v, t, first + i + 1);
+        return line(a.second, a.duration, b.second, b.duration, x);
     }
-    let t1 = point_second(v, t, first) + PERIOD;
-    let f1 = point_duration(v, t, first);
-    line(t0, f0, t1, f1, x)
+    let again = point_at(v, t, first);
+    line(
+        a.second,
+        a.duration,
+        again.second + PERIOD,
+        again.duration,
+        x,
+    )
 }
 
 // The duration of road k for who enters it at x.
@@ -52,11 +54,12 @@ pub fn road_duration(v: &[u8], t: Tables, k: usize, x: u64) -> u64
 {
     let first = road_first(v, t, k);
     let n = road_points(v, t, k);
+    let start = point_at(v, t, first);
     if n == 1 {
-        return point_duration(v, t, first);
+        return start.duration;
     }
     let y = x % PERIOD;
-    if y < point_second(v, t, first) {
+    if y < start.second {
         return from_point(v, t, first, n, n - 1, y + PERIOD);
     }
     let base = t.points;

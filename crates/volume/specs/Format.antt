@@ -1,13 +1,14 @@
 -- What the content words of a volume mean: the head, the roads, the points, the edges and the pieces, as plain functions of a
 -- number. The rules and everything above speak of this record and never of bytes. The sizes of the records and the period stand
 -- here alone.
-use Prim.Native.Nat.{ℕ, _+_, _*_, _/_, _≤_}
+use Prim.Native.Nat.{ℕ, _+_, _*_, _/_, _^_, _≤_, _<_}
 use mathlib.Core.Path.{_≡_, refl}
 use mathlib.Core.List.{List}
 use lib.ListN.{length}
 use Rattle.block.specs.Word.{contentAt}
 use Rattle.volume.specs.declared.tables.Counts.{Counts}
 use Rattle.volume.specs.declared.tables.Tables.{Tables}
+use Rattle.volume.specs.declared.tables.Point.{Point}
 
 -- the seconds of a day
 abbrev pub day : ℕ
@@ -123,12 +124,20 @@ pub record Counted (vol : Volume) (c : Counts) : Type 0 where
 abbrev pub wordsOf : Volume → ℕ
 wordsOf vol = wordsIn (countsOf vol)
 
--- t says where the tables of the volume in v begin, and v holds all of its words
+-- t says where the tables of the volume in v begin, and v holds all of its words, which are no more than a volume can have
 pub record Laid (v : List ℕ) (t : Tables) : Type 0 where
   pub points : t .points ≡ pointsAt (volumeOf v .roads)
   pub edges : t .edges ≡ edgesAt (volumeOf v .roads) (volumeOf v .points)
   pub pieces : t .pieces ≡ piecesAt (volumeOf v .roads) (volumeOf v .points) (volumeOf v .edges)
   pub room : wordsOf (volumeOf v) ≤ 126 * (length v / 512)
+  pub limit : wordsOf (volumeOf v) ≤ 426006
+
+-- q is point i
+pub record IsPoint (vol : Volume) (i : ℕ) (q : Point) : Type 0 where
+  pub second : q .second ≡ vol .point-second i
+  pub duration : q .duration ≡ vol .point-duration i
+  pub second-fits : q .second < 2 ^ 32
+  pub duration-fits : q .duration < 2 ^ 32
 
 -- a volume repeats every day
 pub period-is : (v : List ℕ) → volumeOf v .period ≡ day

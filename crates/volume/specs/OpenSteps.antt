@@ -46,13 +46,14 @@ counted-of vol c e = record {
 }
 
 -- tables that are laid as the counts say
-pub laid-of : (v : List ℕ) (c : Counts) (t : Tables) → c ≡ countsOf (volumeOf v) → t ≡ tablesOf c → wordsIn c ≤ 126 * (length v / 512) → Laid v t
-laid-of v c t e h room =
+pub laid-of : (v : List ℕ) (c : Counts) (t : Tables) → c ≡ countsOf (volumeOf v) → t ≡ tablesOf c → wordsIn c ≤ 126 * (length v / 512)
+    → Few c → Laid v t
+laid-of v c t e h room few =
     let n = counted-of (volumeOf v) c e in
     let p = ap (λ (s : Tables). s .points) h in
     let q = ap (λ (s : Tables). s .edges) h in
     let r = ap (λ (s : Tables). s .pieces) h in
-    record { points = omega arith; edges = omega arith; pieces = omega arith; room = omega arith }
+    record { points = omega arith; edges = omega arith; pieces = omega arith; room = omega arith; limit = omega (arith, few .roads, few .points, few .edges, few .pieces) }
 
 -- the test of the counts, from what is read
 pub counts-rule : (v : List ℕ) (c : Counts) (words blocks : ℕ) → c ≡ countsOf (volumeOf v) → words ≡ wordsIn c

@@ -14,7 +14,7 @@ use Rattle.block.specs.First.{allBelow, all-below}
 use Rattle.block.specs.Good.{firstBad}
 use Rattle.block.specs.Whole.{whole}
 use Rattle.volume.specs.Format.{Volume, volumeOf, countsOf, wordsOf, tablesOf, Counted, Few, Laid, period-is}
-use Rattle.volume.specs.Rules.{longest, mostSpan, empty, endsFit, begins, placed, pointFits, nextSecond, nextDuration, pointRule, second, duration, roadRule, allObey, roadsRule, start, sameEnds, newEnds, startFits, roadJoins, pairJoins, pieceFits, pieceRule, pieceSpan, greatestSpan, spanRule, edgeRule, edgesRule, countsRule, headFits, fewestBlocks, firstRoad, firstEdge}
+use Rattle.volume.specs.Rules.{longest, mostSpan, empty, endsFit, begins, placed, pointFits, nextSecond, nextDuration, pointRule, second, duration, roadRule, allObey, roadsRule, start, sameEnds, newEnds, startFits, roadJoins, meet, pairJoins, pieceFits, pieceRule, pieceSpan, greatestSpan, spanRule, edgeRule, edgesRule, countsRule, headFits, fewestBlocks, firstRoad, firstEdge}
 use Rattle.volume.specs.Sound.{Points, SoundRoad, RoadPiece, PairPiece, SoundEdge, Sound}
 use Rattle.volume.specs.Passes.{ends-fact, placed-fact}
 use Rattle.volume.specs.Open.{recordsOf, openOf}
@@ -124,7 +124,7 @@ module _ (vol : Volume) (e : ℕ) where
       }
 
   pair-piece-fact : (p : ℕ) → vol .piece-right p ≢ empty → pieceFits vol e p ≡ true → pieceSpan vol p ≤ vol .edge-span e → PairPiece vol e p
-  unfolding pieceFits pieceSpan pairJoins
+  unfolding pieceFits pieceSpan pairJoins meet
   pair-piece-fact p ne q s =
       let l = vol .piece-left p in
       let r = vol .piece-right p in
@@ -265,10 +265,11 @@ opened v c e =
     let few = head-few (countsOf vol) (both-left (headFits (countsOf vol)) _ (s₄ .0)) in
     let fewest = eqb-true blocks ((wordsOf vol + 125) / 126) (both-left (eqb blocks ((wordsOf vol + 125) / 126)) _ (both-right (headFits (countsOf vol)) _ (s₄ .0))) in
     let n = counted-of vol c is in
+    let few-c : Few c = rw is few in
     record {
       counts = is;
       counted = n;
-      few = rw is few;
-      laid = laid-of v c (tablesOf c) is refl (omega arith);
+      few = few-c;
+      laid = laid-of v c (tablesOf c) is refl (omega arith) few-c;
       sound = sound-fact vol (let p = period-is v in omega arith) few (s₅ .0) (s₆ .0);
     }

@@ -123,14 +123,15 @@ unfoldable pub roadJoins : Volume → ℕ → ℕ → ℕ → Bool
 roadJoins vol k from to =
     both (ltb k (vol .roads)) (both (eqb (vol .road-from k) from) (eqb (vol .road-to k) to))
 
--- l and r are edges of smaller number than e, l begins at `from`, r ends at `to`, and they meet at a middle of lower rank than both
+-- an edge from l₀ to l₁ and one from r₀ to r₁ lead in turn from `from` to `to`, and meet at a middle of lower rank than both
+unfoldable pub meet : ℕ → ℕ → ℕ → ℕ → ℕ → ℕ → Bool
+meet l₀ l₁ r₀ r₁ from to = both (eqb l₀ from) (both (eqb r₁ to) (both (eqb l₁ r₀) (both (ltb l₁ from) (ltb l₁ to))))
+
+-- l and r are edges of smaller number than e, and lead so from `from` to `to`
 unfoldable pub pairJoins : Volume → ℕ → ℕ → ℕ → ℕ → ℕ → Bool
 pairJoins vol e l r from to =
     both (ltb l e)
-    (both (ltb r e)
-    (both (eqb (vol .edge-from l) from)
-    (both (eqb (vol .edge-to r) to)
-    (both (eqb (vol .edge-to l) (vol .edge-from r)) (both (ltb (vol .edge-to l) from) (ltb (vol .edge-to l) to))))))
+    (both (ltb r e) (meet (vol .edge-from l) (vol .edge-to l) (vol .edge-from r) (vol .edge-to r) from to))
 
 module _ (vol : Volume) (e : ℕ) where
   -- the starting second of piece i of edge e

@@ -20,7 +20,7 @@ ghost use mathlib.Core.Path.{_≡_};
 ghost use Prim.Native.Nat.{ℕ, _+_, _-_, _^_, _≤_, _<_, max};
 ghost use mathlib.Core.List.{List};
 ghost use Rattle.volume.specs.Format.{volumeOf, Counted, Laid, day};
-ghost use Rattle.volume.specs.Rules.{begins, roadJoins, pairJoins, startFits, edgeRule};
+ghost use Rattle.volume.specs.Rules.{begins, roadJoins, meet, pairJoins, startFits, edgeRule};
 ghost use Rattle.volume.specs.EdgeSteps.{pieceFit, piecesFit};
 ghost use Rattle.volume.specs.Passes.{edgesPass};
 ghost use Rattle.volume.specs.Repeats.{Fresh, FirstRepeat};
@@ -48,7 +48,24 @@ fn road_joins(v: &[u8], t: Tables, roads: usize, k: usize, from: usize, to: usiz
     road_to(v, t, k) == to
 }
 
-// Are l and r edges below e that lead in turn from `from` to `to` and meet below both?
+// Do an edge from l0 to l1 and one from r0 to r1 lead in turn from `from` to `to`, and meet below both?
+fn do_meet(l0: usize, l1: usize, r0: usize, r1: usize, from: usize, to: usize) -> bool
+    ensures { λ b. ⌜ b ≡ meet l0 l1 r0 r1 from to ⌝ }
+{
+    if l0 == from {
+        if r1 == to {
+            if l1 == r0 {
+                if l1 < from {
+                    return l1 < to;
+                }
+            }
+        }
+    }
+    false
+}
+
+// Are l and r edges below e that lead in turn from `from` to `to` and meet below both? Their four ends are read before any is
+// compared, so that no read waits for a comparison.
 fn pair_joins(v: &[u8], t: Tables, e: usize, l: usize, r: usize, from: usize, to: usize) -> bool
     requires { ⌜ Laid (now v) t ⌝ }
     requires { ⌜ e < volumeOf (now v) .edges ⌝ }
@@ -60,20 +77,11 @@ fn pair_joins(v: &[u8], t: Tables, e: usize, l: usize, r: usize, from: usize, to
     if e <= r {
         return false;
     }
-    if edge_from(v, t, l) != from {
-        return false;
-    }
-    if edge_to(v, t, r) != to {
-        return false;
-    }
-    let middle = edge_to(v, t, l);
-    if middle != edge_from(v, t, r) {
-        return false;
-    }
-    if from <= middle {
-        return false;
-    }
-    middle < to
+    let l0 = edge_from(v, t, l);
+    let l1 = edge_to(v, t, l);
+    let r0 = edge_from(v, t, r);
+    let r1 = edge_to(v, t, r);
+    do_meet(l0, l1, r0, r1, from, to)
 }
 
 // The span of piece p of edge e, which leads from `from` to `to`.

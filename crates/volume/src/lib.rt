@@ -66,7 +66,7 @@ fn head_fits(c: Counts) -> bool
 
 // Are the content words of n blocks zero from word `words` on?
 fn filler_zero(v: &[u8], words: usize, blocks: usize) -> bool
-    requires { ⌜ (512 * blocks ≤ length (now v)) × (words ≤ 126 * blocks) ⌝ }
+    requires { ⌜ (512 * blocks ≤ length (now v)) × (words ≤ 126 * blocks) × (blocks ≤ 3381) ⌝ }
     ensures { λ r. ⌜ r ≡ fillerZero (now (v .entry)) words blocks ⌝ }
 {
     let n = 126 * blocks - words;
@@ -80,17 +80,33 @@ fn filler_zero(v: &[u8], words: usize, blocks: usize) -> bool
     true
 }
 
-// The pass over all edges, with the index that it walks.
-fn edges_indexed(v: &[u8], t: Tables, c: Counts) -> Pass
+// The pass over all edges, with the index that it walks: `next` has room for it.
+fn edges_indexed(v: &[u8], t: Tables, c: Counts, next: &mut [u16]) -> Pass
+    requires { ⌜ Laid (now v) t ⌝ }
+    requires { ⌜ Counted (volumeOf (now v)) c ⌝ }
+    requires { ⌜ Few c ⌝ }
+    requires { ⌜ c .edges ≤ length (now next) ⌝ }
+    ensures { λ r. ⌜ r ≡ edgesPass (volumeOf (now (v .entry))) ⌝ }
+{
+    let mut first = [0u16; 1024];
+    index_edges(v, t, c, &mut first, next);
+    edges_pass(v, t, c, first_repeat(v, t, c, &first, next))
+}
+
+// The pass over all edges. A list of 16,384 numbers takes longer to make than a volume of a block or two takes to read, so one of
+// few edges gets a short list.
+fn edges_opened(v: &[u8], t: Tables, c: Counts) -> Pass
     requires { ⌜ Laid (now v) t ⌝ }
     requires { ⌜ Counted (volumeOf (now v)) c ⌝ }
     requires { ⌜ Few c ⌝ }
     ensures { λ r. ⌜ r ≡ edgesPass (volumeOf (now (v .entry))) ⌝ }
 {
-    let mut first = [0u16; 1024];
+    if c.edges <= 1024 {
+        let mut next = [0u16; 1024];
+        return edges_indexed(v, t, c, &mut next);
+    }
     let mut next = [0u16; 16384];
-    index_edges(v, t, c, &mut first, &mut next);
-    edges_pass(v, t, c, first_repeat(v, t, c, &first, &next))
+    edges_indexed(v, t, c, &mut next)
 }
 
 // Roads, then edges.
@@ -104,7 +120,7 @@ fn open_records(v: &[u8], t: Tables, c: Counts) -> Opening
     if let Pass::Fault(k) = roads {
         return Opening::Refused(5, k as u64);
     }
-    let edges = edges_indexed(v, t, c);
+    let edges = edges_opened(v, t, c);
     if let Pass::Fault(e) = edges {
         return Opening::Refused(6, e as u64);
     }

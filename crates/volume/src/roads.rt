@@ -2,8 +2,7 @@
 use crate::tables::Counts;
 use crate::tables::PERIOD;
 use crate::tables::Tables;
-use crate::tables::point_duration;
-use crate::tables::point_second;
+use crate::tables::point_at;
 use crate::tables::road_first;
 use crate::tables::road_from;
 use crate::tables::road_points;
@@ -14,7 +13,6 @@ ghost use Rattle.block.specs.First.{allBelow};
 ghost use Rattle.volume.specs.Format.{volumeOf, Counted, Laid, day};
 ghost use Rattle.volume.specs.Rules.{endsFit, placed, begins, pointFits, pointRule, roadRule};
 ghost use Rattle.volume.specs.Passes.{roadsPass};
-ghost use Rattle.volume.specs.RoadSteps.{IsPoint, IsNext};
 
 const LONGEST: u64 = 86400;
 
@@ -49,40 +47,6 @@ pub fn is_placed(begin: usize, total: usize, first: usize, number: usize) -> boo
     false
 }
 
-pub struct Point {
-    pub second: u64,
-    pub duration: u64,
-}
-
-// Point i of all.
-fn point_at(v: &[u8], t: Tables, i: usize) -> Point
-    requires { ⌜ Laid (now v) t ⌝ }
-    requires { ⌜ i < volumeOf (now v) .points ⌝ }
-    ensures { λ r. ⌜ IsPoint (volumeOf (now (v .entry))) i r ⌝ }
-{
-    Point {
-        second: point_second(v, t, i),
-        duration: point_duration(v, t, i),
-    }
-}
-
-// The point after point i of the n points from `first` on.
-fn next_point(v: &[u8], t: Tables, first: usize, n: usize, i: usize) -> Point
-    requires { ⌜ Laid (now v) t ⌝ }
-    requires { ⌜ (i < n) × (first + n ≤ volumeOf (now v) .points) × (first < 2 ^ 32) × (n < 2 ^ 32) ⌝ }
-    ensures { λ r. ⌜ IsNext (volumeOf (now (v .entry))) first n i r ⌝ }
-{
-    let j = i + 1;
-    if j < n {
-        return point_at(v, t, first + j);
-    }
-    let again = point_at(v, t, first);
-    Point {
-        second: again.second + PERIOD,
-        duration: again.duration,
-    }
-}
-
 // Does the point (t0, f0) fit before the point (t1, f1)?
 fn point_fits(t0: u64, f0: u64, t1: u64, f1: u64) -> bool
     requires { ⌜ (t1 < 2 ^ 33) × (f1 < 2 ^ 32) ⌝ }
@@ -100,7 +64,7 @@ fn point_fits(t0: u64, f0: u64, t1: u64, f1: u64) -> bool
     false
 }
 
-// Do the n points from `first` on obey? Each is read once.
+// Do the n points from `first` on obey? Each fits before the next one, and the last before the first of the next period.
 fn points_fit(v: &[u8], t: Tables, first: usize, n: usize) -> bool
     requires { ⌜ Laid (now v) t ⌝ }
     requires { ⌜ (1 ≤ n) × (first + n ≤ volumeOf (now v) .points) × (first < 2 ^ 32) × (n < 2 ^ 32) ⌝ }
@@ -108,15 +72,16 @@ fn points_fit(v: &[u8], t: Tables, first: usize, n: usize) -> bool
 {
     let mut a = point_at(v, t, first);
     let mut i: usize = 0;
-    while i < n {
-        let b = next_point(v, t, first, n, i);
+    while i + 1 < n {
+        let b = point_at(v, t, first + (i + 1));
         if !point_fits(a.second, a.duration, b.second, b.duration) {
             return false;
         }
         a = b;
         i += 1;
     }
-    true
+    let again = point_at(v, t, first);
+    point_fits(a.second, a.duration, again.second + PERIOD, again.duration)
 }
 
 // Does road k obey? Its points are to begin at `begin`.

@@ -1,9 +1,10 @@
 // The tables of a volume, with one reader for each field of a record. How many words a record has and
 // where each table begins is said here and in specs/Format.antt, and nowhere else.
 use block::content;
+use block::content_pair;
 ghost use mathlib.Core.Path.{_≡_};
 ghost use Prim.Native.Nat.{_^_, _<_};
-ghost use Rattle.volume.specs.Format.{volumeOf, Laid, Few, tablesOf, wordsIn};
+ghost use Rattle.volume.specs.Format.{volumeOf, Laid, Few, IsPoint, tablesOf, wordsIn};
 
 const HEAD_WORDS: usize = 6;
 
@@ -34,6 +35,12 @@ pub struct Tables {
     pub points: usize,
     pub edges: usize,
     pub pieces: usize,
+}
+
+// A second of day and the duration there.
+pub struct Point {
+    pub second: u64,
+    pub duration: u64,
 }
 
 // Where the tables begin, from the counts.
@@ -94,24 +101,18 @@ pub fn road_points(v: &[u8], t: Tables, k: usize) -> usize
     content(v, HEAD_WORDS + ROAD_WORDS * k + 3) as usize
 }
 
-// The second of day of point i.
-pub fn point_second(v: &[u8], t: Tables, i: usize) -> u64
+// Point i of all.
+pub fn point_at(v: &[u8], t: Tables, i: usize) -> Point
     requires { ⌜ Laid (now v) t ⌝ }
     requires { ⌜ i < volumeOf (now v) .points ⌝ }
-    ensures { λ r. ⌜ (r ≡ volumeOf (now (v .entry)) .point-second i) × (r < 2 ^ 32) ⌝ }
+    ensures { λ r. ⌜ IsPoint (volumeOf (now (v .entry))) i r ⌝ }
 {
     let base = t.points;
-    content(v, base + POINT_WORDS * i) as u64
-}
-
-// The duration at point i.
-pub fn point_duration(v: &[u8], t: Tables, i: usize) -> u64
-    requires { ⌜ Laid (now v) t ⌝ }
-    requires { ⌜ i < volumeOf (now v) .points ⌝ }
-    ensures { λ r. ⌜ (r ≡ volumeOf (now (v .entry)) .point-duration i) × (r < 2 ^ 32) ⌝ }
-{
-    let base = t.points;
-    content(v, base + POINT_WORDS * i + 1) as u64
+    let words = content_pair(v, base + POINT_WORDS * i);
+    Point {
+        second: words.first as u64,
+        duration: words.second as u64,
+    }
 }
 
 // The junction where edge e begins.

@@ -1,8 +1,10 @@
-use Prim.Native.Nat.{_≤_, _-_}
+use Prim.Native.Nat.{_+_, _≤_, _-_}
+use mathlib.Core.Path.{_≡_, sym, _∙_}
+use native.Mathlib.Omega.{arith}
+use borrow.Author.Tests.{not-true, not-false}
 use borrow.Author.Needs.{needs}
 use Rattle.block.specs.First.{Passed, first-start, first-go, first-stop, first-end}
-use Rattle.block.specs.Good.{good, a-differs, b-differs, neither-differs}
-use Rattle.block.specs.Word.{blockWord}
+use Rattle.block.specs.Good.{good}
 use Rattle.block.proofs.first_bad.Statement.{statement}
 use Rattle.block.proofs.first_bad.Tie as tie
 
@@ -15,45 +17,40 @@ abbrev μ-loop : tie.MeasureT-loop
 loop-holds : tie.Need-loop-holds Inv-loop μ-loop
 loop-holds c = (search needs, first-start (good (c .before .args .v .now)) (c .before .args .n))
 
-sums-of-requires : tie.Need-sums-of-requires Inv-loop μ-loop
-sums-of-requires c κs = search needs
+add-loop : tie.Need-add-loop Inv-loop μ-loop
+add-loop c = search needs
 
-mul-word : tie.Need-mul-word Inv-loop μ-loop
-mul-word c = search needs
+sums-of-two-requires : tie.Need-sums-of-two-requires Inv-loop μ-loop
+sums-of-two-requires c κs = search needs
 
-add-word : tie.Need-add-word Inv-loop μ-loop
-add-word c = search needs
-
-word-requires : tie.Need-word-requires Inv-loop μ-loop
-word-requires c κs = search needs
+carries-requires : tie.Need-carries-requires Inv-loop μ-loop
+carries-requires c κs = (search needs, c .sums-of-two .ensures .0)
 
 returns : tie.Need-returns Inv-loop μ-loop
-unfolding blockWord
 returns c =
-    let s = c .before .before .before .before in
-    let a = s .before .before .args in
-    let bad =
-    a-differs (a .v .now) (s .loop .k) _ (c .before .before .sums-of .ensures) _ 0 (c .before .word .ensures) (c .if1 .taken) in
-    (first-stop (good (a .v .now)) (a .n) (s .loop .k) (search needs) bad (s .loop .inv .1), search needs)
+    let l = c .before .before .before .before in
+    let a = l .before .before .args in
+    let bad = sym (c .before .carries .ensures) ∙ not-true _ (c .if1 .taken) in
+    (first-stop (good (a .v .now)) (a .n) (l .loop .k) (search needs) bad (l .loop .inv .1), search needs)
 
-mul-word-2 : tie.Need-mul-word-2 Inv-loop μ-loop
-mul-word-2 c = search needs
+add-carries : tie.Need-add-carries Inv-loop μ-loop
+add-carries c = search needs
 
-add-word-2 : tie.Need-add-word-2 Inv-loop μ-loop
-add-word-2 c = search needs
+carries-requires-2 : tie.Need-carries-requires-2 Inv-loop μ-loop
+carries-requires-2 c κs = (search needs, c .before .before .sums-of-two .ensures .1)
 
-word-requires-2 : tie.Need-word-requires-2 Inv-loop μ-loop
-word-requires-2 c κs = search needs
+add-result : tie.Need-add-result Inv-loop μ-loop
+add-result c = search needs
 
 returns-2 : tie.Need-returns-2 Inv-loop μ-loop
-unfolding blockWord
 returns-2 c =
-    let s = c .before .before .before .before .before .before in
-    let a = s .before .before .args in
-    let h = c .before .before .before .before .sums-of .ensures in
-    let bad =
-    b-differs (a .v .now) (s .loop .k) _ h _ _ (c .before .before .before .word .ensures) (c .before .before .if1 .left) (c .before .word2 .ensures) (c .if2 .taken) in
-    (first-stop (good (a .v .now)) (a .n) (s .loop .k) (search needs) bad (s .loop .inv .1), search needs)
+    let d = c .before .before in
+    let l = d .before .before .before .before in
+    let a = l .before .before .args in
+    let fine = sym (d .before .carries .ensures) ∙ not-false _ (d .if1 .left) in
+    let bad = sym (c .before .carries2 .ensures) ∙ not-true _ (c .if2 .taken) in
+    let past = first-go (good (a .v .now)) (a .n) (l .loop .k) (search needs) fine (l .loop .inv .1) in
+    (first-stop (good (a .v .now)) (a .n) (l .loop .k + 1) (search needs) bad past, search needs)
 
 add-k : tie.Need-add-k Inv-loop μ-loop
 add-k c = search needs
@@ -62,20 +59,46 @@ loop-less : tie.Need-loop-less Inv-loop μ-loop
 loop-less c = search needs
 
 loop-again : tie.Need-loop-again Inv-loop μ-loop
-unfolding blockWord
 loop-again c =
-    let s = c .before .before .before .before .before .before in
-    let a = s .before .before .args in
-    let h = c .before .before .before .before .sums-of .ensures in
-    let fine =
-    neither-differs (a .v .now) (s .loop .k) _ h _ _ (c .before .before .before .word .ensures) (c .before .before .if1 .left) (c .before .word2 .ensures) (c .if2 .left) in
-    (search needs, first-go (good (a .v .now)) (a .n) (s .loop .k) (search needs) fine (s .loop .inv .1))
+    let d = c .before .before in
+    let l = d .before .before .before .before in
+    let a = l .before .before .args in
+    let fine = sym (d .before .carries .ensures) ∙ not-false _ (d .if1 .left) in
+    let fine-2 = sym (c .before .carries2 .ensures) ∙ not-false _ (c .if2 .left) in
+    let past = first-go (good (a .v .now)) (a .n) (l .loop .k) (search needs) fine (l .loop .inv .1) in
+    let two : l .loop .k + 1 + 1 ≡ l .loop .k + 2 = omega arith in
+    (search needs, rw two at (first-go (good (a .v .now)) (a .n) (l .loop .k + 1) (search needs) fine-2 past))
 
 returns-3 : tie.Need-returns-3 Inv-loop μ-loop
 returns-3 c =
-    let s = c .before in
-    let a = s .before .before .args in
-    (first-end (good (a .v .now)) (a .n) (s .loop .k) (search needs) (s .loop .inv .1), search needs)
+    let l = c .before .before in
+    let a = l .before .before .args in
+    let end = c .if3 .taken in
+    (sym end ∙ first-end (good (a .v .now)) (a .n) (l .loop .k) (search needs) (l .loop .inv .1), search needs)
+
+sums-of-requires : tie.Need-sums-of-requires Inv-loop μ-loop
+sums-of-requires c κs = search needs
+
+carries-requires-3 : tie.Need-carries-requires-3 Inv-loop μ-loop
+carries-requires-3 c κs = (search needs, c .sums-of .ensures)
+
+returns-4 : tie.Need-returns-4 Inv-loop μ-loop
+returns-4 c =
+    let d = c .before .before .before in
+    let l = d .before .before in
+    let a = l .before .before .args in
+    let fine = sym (c .before .carries3 .ensures) ∙ c .if4 .taken in
+    let past = first-go (good (a .v .now)) (a .n) (l .loop .k) (search needs) fine (l .loop .inv .1) in
+    let end : a .n ≡ l .loop .k + 1 = search needs in
+    (end ∙ first-end (good (a .v .now)) (a .n) (l .loop .k + 1) (search needs) past, search needs)
+
+returns-5 : tie.Need-returns-5 Inv-loop μ-loop
+returns-5 c =
+    let d = c .before .before .before in
+    let l = d .before .before in
+    let a = l .before .before .args in
+    let bad = sym (c .before .carries3 .ensures) ∙ c .if4 .left in
+    (first-stop (good (a .v .now)) (a .n) (l .loop .k) (search needs) bad (l .loop .inv .1), search needs)
 
 pub first-bad-spec : {M : Type 1} → statement M
 first-bad-spec =
@@ -84,16 +107,19 @@ first-bad-spec =
     Inv-loop
     μ-loop
     loop-holds
-    sums-of-requires
-    mul-word
-    add-word
-    word-requires
+    add-loop
+    sums-of-two-requires
+    carries-requires
     returns
-    mul-word-2
-    add-word-2
-    word-requires-2
+    add-carries
+    carries-requires-2
+    add-result
     returns-2
     add-k
     loop-less
     loop-again
-    returns-3)
+    returns-3
+    sums-of-requires
+    carries-requires-3
+    returns-4
+    returns-5)

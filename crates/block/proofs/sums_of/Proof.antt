@@ -1,27 +1,23 @@
 use Prim.Native.Nat.{_≤_, _-_}
-use mathlib.Core.Path.{_≡_, refl}
+use mathlib.Core.Path.{_≡_}
 use native.Mathlib.Omega.{arith}
 use borrow.Author.Needs.{needs}
-use Rattle.block.specs.Sums.{sumA, sumB, sumA-next, sumB-next}
+use Rattle.block.specs.Sums.{SummedTo, summed-start, summed-next}
 use Rattle.block.specs.Word.{blockWord}
 use Rattle.block.proofs.sums_of.Statement.{statement}
 use Rattle.block.proofs.sums_of.Tie as tie
 
 abbrev Inv-loop : tie.InvT-loop
-Inv-loop v k a₀ b₀ i₀ a b i = (i ≤ 126) × (a ≡ sumA (blockWord v k) k i) × (b ≡ sumB (blockWord v k) k i)
+Inv-loop v k s₀ i₀ s i = (i ≤ 126) × SummedTo v k i s
 
 abbrev μ-loop : tie.MeasureT-loop
-μ-loop v k a₀ b₀ i₀ a b i = 126 - i
+μ-loop v k s₀ i₀ s i = 126 - i
 
-cast-a : tie.Need-cast-a Inv-loop μ-loop
-cast-a c = search needs
-
-add-a : tie.Need-add-a Inv-loop μ-loop
-add-a c = search needs
+start-requires : tie.Need-start-requires Inv-loop μ-loop
+start-requires c κs = search needs
 
 loop-holds : tie.Need-loop-holds Inv-loop μ-loop
-unfolding sumA sumB
-loop-holds c = (search needs, refl, refl)
+loop-holds c = (search needs, summed-start _ _ _ (c .start .ensures .0) (c .start .ensures .1))
 
 mul-word : tie.Need-mul-word Inv-loop μ-loop
 mul-word c = search needs
@@ -32,11 +28,8 @@ add-word c = search needs
 word-requires : tie.Need-word-requires Inv-loop μ-loop
 word-requires c κs = search needs
 
-wrapping-add-u32-requires : tie.Need-wrapping-add-u32-requires Inv-loop μ-loop
-wrapping-add-u32-requires c κs = search needs
-
-wrapping-add-u32-requires-2 : tie.Need-wrapping-add-u32-requires-2 Inv-loop μ-loop
-wrapping-add-u32-requires-2 c κs = search needs
+gain-requires : tie.Need-gain-requires Inv-loop μ-loop
+gain-requires c κs = search needs
 
 add-i : tie.Need-add-i Inv-loop μ-loop
 add-i c = search needs
@@ -47,14 +40,12 @@ loop-less c = search needs
 loop-again : tie.Need-loop-again Inv-loop μ-loop
 unfolding blockWord
 loop-again c =
-    let s = c .before .before .before .before in
-    let k = s .before .before .args .k in
-    let i = s .loop .i in
-    let f = blockWord (s .before .before .args .v .now) k in
-    (search needs, cc (sumA-next f k i), cc (sumA-next f k i, sumB-next f k i))
+    let l = c .before .before .before in
+    let a = l .before .before .before .args in
+    (search needs, summed-next (a .v .now) (a .k) (l .loop .i) _ _ _ (l .loop .inv .1) (c .before .word .ensures) (c .gain .ensures))
 
 returns : tie.Need-returns Inv-loop μ-loop
-returns c = let e : c .before .loop .i ≡ 126 = omega arith in record { a-is = (cc); b-is = (cc) }
+returns c = let e : c .before .loop .i ≡ 126 = omega arith in rw e at (c .before .loop .inv .1)
 
 pub sums-of-spec : {M : Type 1} → statement M
 sums-of-spec =
@@ -62,14 +53,12 @@ sums-of-spec =
     (tie.spec
     Inv-loop
     μ-loop
-    cast-a
-    add-a
+    start-requires
     loop-holds
     mul-word
     add-word
     word-requires
-    wrapping-add-u32-requires
-    wrapping-add-u32-requires-2
+    gain-requires
     add-i
     loop-less
     loop-again

@@ -10,8 +10,7 @@ run-requires : tie.Need-run-requires
 run-requires c κs =
     let s = c .before .before .before .before .before in
     let o = s .pre .0 in
-    let a = s .pre .1 in
-    (rw (c .before .tables-of .ensures) (o .laid), (o .counted, (o .few, (o .sound, (a .start, a .destined, a .departs, a .budgeted, a .room)))))
+    (rw (c .before .tables-of .ensures) (o .laid), (o .counted, (o .few, (o .sound, s .pre .1))))
 
 enum-known-outcome : tie.Need-enum-known-outcome
 enum-known-outcome c = search needs

@@ -1,16 +1,13 @@
 use native.Mathlib.Omega.{arith}
 use lib.ListN.{replicate}
-use borrow.Author.Needs.{needs}
 use Rattle.volume.specs.Index.{indexed-linked}
 use Rattle.volume.specs.Format.{volumeOf}
+use borrow.Author.Needs.{needs}
 use Rattle.volume.proofs.edges_indexed.Statement.{statement}
 use Rattle.volume.proofs.edges_indexed.Tie as tie
 
 slice-aggregate-index-edges : tie.Need-slice-aggregate-index-edges
 slice-aggregate-index-edges c = search needs
-
-slice-aggregate-index-edges-2 : tie.Need-slice-aggregate-index-edges-2
-slice-aggregate-index-edges-2 c = search needs
 
 index-edges-requires : tie.Need-index-edges-requires
 index-edges-requires c κs = search needs
@@ -18,17 +15,18 @@ index-edges-requires c κs = search needs
 slice-aggregate-first-repeat : tie.Need-slice-aggregate-first-repeat
 slice-aggregate-first-repeat c = search needs
 
-slice-aggregate-first-repeat-2 : tie.Need-slice-aggregate-first-repeat-2
-slice-aggregate-first-repeat-2 c = search needs
-
 first-repeat-requires : tie.Need-first-repeat-requires
 first-repeat-requires c κs =
-    let s = c .before .before .before .before .before .before .before .before in
+    let i = c .before .before .before .before .before in
+    let s = i .before .before .before .before .before in
     let n = s .pre .1 .0 in
-    (s .pre .0, (n, (s .pre .1 .1, indexed-linked (volumeOf (s .args .v .now)) (replicate 1024 0) (replicate 16384 0) _ _ (omega (arith, s .pre .1 .1, n .junctions)) (omega (arith, s .pre .1 .1, n .edges)) (c .before .before .before .before .index-edges .ensures))))
+    (s .pre .0, (n, (s .pre .1 .1 .0, indexed-linked (volumeOf (s .args .v .now)) (replicate 1024 0) _ _ _ (omega (arith, s .pre .1 .1 .0, n .junctions)) (omega (arith, s .pre .1 .1 .1, n .edges)) (i .index-edges .ensures))))
 
 edges-pass-requires : tie.Need-edges-pass-requires
 edges-pass-requires c κs = search needs
+
+same-length : tie.Need-same-length
+same-length c = search needs
 
 returns : tie.Need-returns
 returns c = search needs
@@ -38,10 +36,9 @@ edges-indexed-spec =
     tie.close
     (tie.spec
     slice-aggregate-index-edges
-    slice-aggregate-index-edges-2
     index-edges-requires
     slice-aggregate-first-repeat
-    slice-aggregate-first-repeat-2
     first-repeat-requires
     edges-pass-requires
+    same-length
     returns)

@@ -36,7 +36,9 @@ returns-2 c =
     ∙ both-no _ (ne-eqb _ _ (c .if2 .taken))))
 
 filler-zero-requires : tie.Need-filler-zero-requires
-filler-zero-requires c κs = search needs
+filler-zero-requires c κs =
+    let few = head-few _ (sym (c .before .before .before .head-fits .ensures) ∙ not-false _ (c .before .before .if1 .left)) in
+    omega (arith, c .before .words-of .ensures, few .roads, few .points, few .edges, few .pieces)
 
 returns-3 : tie.Need-returns-3
 unfolding fewestBlocks
@@ -57,7 +59,8 @@ open-records-requires c κs =
     let h = c .before .before .before .before .before .before .before .head .ensures in
     let w = c .before .before .before .before .words-of .ensures in
     let e = c .before .before .before .if2 .left in
-    (laid-of _ _ _ h (c .tables-of .ensures) (omega arith), (h, head-few _ (sym (c .before .before .before .before .before .before .head-fits .ensures) ∙ not-false _ (c .before .before .before .before .before .if1 .left))))
+    let few = head-few _ (sym (c .before .before .before .before .before .before .head-fits .ensures) ∙ not-false _ (c .before .before .before .before .before .if1 .left)) in
+    (laid-of _ _ _ h (c .tables-of .ensures) (omega arith) few, (h, few))
 
 returns-4 : tie.Need-returns-4
 unfolding fewestBlocks

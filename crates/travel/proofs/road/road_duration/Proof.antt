@@ -14,9 +14,9 @@ road-first-requires c κs = search needs
 road-points-requires : tie.Need-road-points-requires
 road-points-requires c κs = search needs
 
-point-duration-requires : tie.Need-point-duration-requires
-point-duration-requires c κs =
-    let d = c .before in
+point-at-requires : tie.Need-point-at-requires
+point-at-requires c κs =
+    let d = c in
     let s = d .before .before .before in
     let R = of-road (s .pre .1 .0) (s .pre .1 .1) (d .before .road-first .ensures .0) (d .road-points .ensures .0) in
     (s .pre .0, omega (arith, points-from R .inside, points-from R .points .some))
@@ -26,18 +26,11 @@ returns c =
     let d = c .before .before in
     let s = d .before .before .before in
     let R = of-road (s .pre .1 .0) (s .pre .1 .1) (d .before .road-first .ensures .0) (d .road-points .ensures .0) in
-    one-is R (s .args .x) _ refl _ (c .before .if1 .taken) (c .point-duration .ensures .0)
-
-point-second-requires : tie.Need-point-second-requires
-point-second-requires c κs =
-    let d = c .before in
-    let s = d .before .before .before in
-    let R = of-road (s .pre .1 .0) (s .pre .1 .1) (d .before .road-first .ensures .0) (d .road-points .ensures .0) in
-    (s .pre .0, omega (arith, points-from R .inside, points-from R .points .some))
+    one-is R (s .args .x) _ refl _ (c .if1 .taken) (c .before .point-at .ensures .duration)
 
 sub-from-point : tie.Need-sub-from-point
 sub-from-point c =
-    let d = c .before .before .before in
+    let d = c .before .before .before .before in
     let s = d .before .before .before in
     let R = of-road (s .pre .1 .0) (s .pre .1 .1) (d .before .road-first .ensures .0) (d .road-points .ensures .0) in
     points-from R .points .some
@@ -47,24 +40,24 @@ add-from-point c = search needs
 
 from-point-requires : tie.Need-from-point-requires
 from-point-requires c κs =
-    let d = c .before .before .before in
+    let d = c .before .before .before .before in
     let s = d .before .before .before in
     let R = of-road (s .pre .1 .0) (s .pre .1 .1) (d .before .road-first .ensures .0) (d .road-points .ensures .0) in
     let P = period-is (s .args .v .now) in (
       s .pre .0,
       (
         points-from R,
-        early-line R (s .args .x) _ (same-second (s .args .x) P) _ (omega (arith, c .before .point-second .ensures .0)) (omega arith),
+        early-line R (s .args .x) _ (same-second (s .args .x) P) _ (omega (arith, c .before .before .before .point-at .ensures .second)) (omega arith),
       ),
     )
 
 returns-2 : tie.Need-returns-2
 returns-2 c =
-    let d = c .before .before .before .before in
+    let d = c .before .before .before .before .before in
     let s = d .before .before .before in
     let R = of-road (s .pre .1 .0) (s .pre .1 .1) (d .before .road-first .ensures .0) (d .road-points .ensures .0) in
     let P = period-is (s .args .v .now) in
-    early-is R (s .args .x) _ (same-second (s .args .x) P) _ (omega (arith, c .before .before .point-second .ensures .0)) (omega arith)
+    early-is R (s .args .x) _ (same-second (s .args .x) P) _ (omega (arith, c .before .before .before .before .point-at .ensures .second)) (omega arith)
     _ (c .from-point .ensures)
 
 mul-last-at : tie.Need-mul-last-at
@@ -75,31 +68,31 @@ add-last-at c = search needs
 
 last-at-requires : tie.Need-last-at-requires
 last-at-requires c κs =
-    let d = c .before .before .before in
+    let d = c .before .before .before .before in
     let s = d .before .before .before in
     let R = of-road (s .pre .1 .0) (s .pre .1 .1) (d .before .road-first .ensures .0) (d .road-points .ensures .0) in
-    seconds-row (s .pre .0) R _ refl _ (omega (arith, c .before .point-second .ensures .0))
+    seconds-row (s .pre .0) R _ refl _ (omega (arith, c .before .before .before .point-at .ensures .second))
 
 from-point-requires-2 : tie.Need-from-point-requires-2
 from-point-requires-2 c κs =
-    let d = c .before .before .before .before in
+    let d = c .before .before .before .before .before in
     let s = d .before .before .before in
     let R = of-road (s .pre .1 .0) (s .pre .1 .1) (d .before .road-first .ensures .0) (d .road-points .ensures .0) in
     let i = seconds-last (s .pre .0) R _ refl _ _ (c .last-at .ensures) in (
       s .pre .0,
       (
         points-from R,
-        late-line R (s .args .x) _ (same-second (s .args .x) (period-is (s .args .v .now))) _ (omega (arith, c .before .before .point-second .ensures .0)) i,
+        late-line R (s .args .x) _ (same-second (s .args .x) (period-is (s .args .v .now))) _ (omega (arith, c .before .before .before .before .point-at .ensures .second)) i,
       ),
     )
 
 returns-3 : tie.Need-returns-3
 returns-3 c =
-    let d = c .before .before .before .before .before in
+    let d = c .before .before .before .before .before .before in
     let s = d .before .before .before in
     let R = of-road (s .pre .1 .0) (s .pre .1 .1) (d .before .road-first .ensures .0) (d .road-points .ensures .0) in
     let i = seconds-last (s .pre .0) R _ refl _ _ (c .before .last-at .ensures) in
-    late-is R (s .args .x) _ (same-second (s .args .x) (period-is (s .args .v .now))) _ (omega (arith, c .before .before .before .point-second .ensures .0)) i
+    late-is R (s .args .x) _ (same-second (s .args .x) (period-is (s .args .v .now))) _ (omega (arith, c .before .before .before .before .before .point-at .ensures .second)) i
     _ (c .from-point2 .ensures)
 
 pub road-duration-spec : {M : Type 1} → statement M
@@ -108,9 +101,8 @@ road-duration-spec =
     (tie.spec
     road-first-requires
     road-points-requires
-    point-duration-requires
+    point-at-requires
     returns
-    point-second-requires
     sub-from-point
     add-from-point
     from-point-requires

@@ -1,0 +1,72 @@
+use native.Mathlib.Omega.{arith}
+use lib.ListN.{replicate}
+use Rattle.volume.specs.Index.{indexed-linked}
+use Rattle.volume.specs.Format.{volumeOf}
+use borrow.Author.Needs.{needs}
+use Rattle.settle.proofs.run_indexed.Statement.{statement}
+use Rattle.settle.proofs.run_indexed.Tie as tie
+
+slice-aggregate-index-edges : tie.Need-slice-aggregate-index-edges
+slice-aggregate-index-edges c = search needs
+
+index-edges-requires : tie.Need-index-edges-requires
+index-edges-requires c κs = search needs
+
+slice-aggregate-mark : tie.Need-slice-aggregate-mark
+slice-aggregate-mark c = search needs
+
+slice-aggregate-mark-2 : tie.Need-slice-aggregate-mark-2
+slice-aggregate-mark-2 c = search needs
+
+mark-requires : tie.Need-mark-requires
+mark-requires c κs =
+    let i = c .before .before .before .before .before .before in
+    let s = i .before .before .before .before .before .before in
+    let n = s .pre .1 .0 in
+    let few = s .pre .1 .1 .0 in
+    (s .pre .0, (n, (indexed-linked (volumeOf (s .args .v .now)) (replicate 1024 0) _ _ _ (omega (arith, few, n .junctions)) (omega (arith, s .pre .1 .1 .1 .1 .0, n .edges)) (i .index-edges .ensures), omega (arith, few))))
+
+slice-aggregate-units : tie.Need-slice-aggregate-units
+slice-aggregate-units c = search needs
+
+slice-aggregate-units-2 : tie.Need-slice-aggregate-units-2
+slice-aggregate-units-2 c = search needs
+
+units-requires : tie.Need-units-requires
+units-requires c κs =
+    let m = c .before .before .before .before .before in
+    let i = m .before .before .before .before .before .before .before in
+    let s = i .before .before .before .before .before .before in
+    let n = s .pre .1 .0 in
+    let few = s .pre .1 .1 .0 in (
+      (s .pre .0, n, s .pre .1 .1 .1 .0),
+      (
+        indexed-linked (volumeOf (s .args .v .now)) (replicate 1024 0) _ _ _ (omega (arith, few, n .junctions)) (omega (arith, s .pre .1 .1 .1 .1 .0, n .edges)) (i .index-edges .ensures),
+        ((omega (arith, few, m .mark .ensures .size), m .mark .ensures .marks-at), s .pre .1 .1 .1 .1 .1),
+      ),
+    )
+
+same-length : tie.Need-same-length
+same-length c = search needs
+
+same-length-2 : tie.Need-same-length-2
+same-length-2 c = search needs
+
+returns : tie.Need-returns
+returns c = search needs
+
+pub run-indexed-spec : {M : Type 1} → statement M
+run-indexed-spec =
+    tie.close
+    (tie.spec
+    slice-aggregate-index-edges
+    index-edges-requires
+    slice-aggregate-mark
+    slice-aggregate-mark-2
+    mark-requires
+    slice-aggregate-units
+    slice-aggregate-units-2
+    units-requires
+    same-length
+    same-length-2
+    returns)
