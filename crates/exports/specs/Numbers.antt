@@ -7,7 +7,7 @@ use Rattle.volume.specs.declared.Opening.the-variants.{Opened, Refused as NotOp
 use Rattle.travel.specs.declared.Timing.{Timing}
 use Rattle.travel.specs.declared.Timing.the-variants.{Lasts, Refused as NotTimed}
 use Rattle.full.specs.declared.Verdict.{Verdict}
-use Rattle.full.specs.declared.Verdict.the-variants.{Full, RoadMissing, RoadLate, PairMissing, PairLate, Refused as NotChecked}
+use Rattle.full.specs.Paper.{Paper, found, refusal, paper as onPaper}
 use Rattle.settle.specs.declared.Upper.{Upper}
 use Rattle.settle.specs.declared.Upper.the-variants.{At, Missing}
 use Rattle.search.specs.declared.Answer.{Answer}
@@ -39,14 +39,13 @@ timingTold (NotTimed number place) = refused number place
 abbrev pub four : ℕ → ℕ → ℕ → ℕ → Told
 four a b c d = record { number = 0; values = a ∷ b ∷ c ∷ d ∷ [] }
 
--- the check: kind, road or left edge, right edge or 0, second
+-- the check: kind, road or left edge, right edge or 0, second, as on paper
+abbrev pub paperTold : Paper → Told
+paperTold (found kind left right second) = four kind left right second
+paperTold (refusal number place) = refused number place
+
 abbrev pub verdictTold : Verdict → Told
-verdictTold Full = four 0 0 0 0
-verdictTold (RoadMissing k) = four 1 k 0 0
-verdictTold (RoadLate k x) = four 2 k 0 x
-verdictTold (PairMissing l r) = four 3 l r 0
-verdictTold (PairLate l r x) = four 4 l r x
-verdictTold (NotChecked number place) = refused number place
+verdictTold verdict = paperTold (onPaper verdict)
 
 -- a window: lower end, 1 or 0 for whether there is an upper end, the upper end or 0, used
 abbrev pub windowTold : ℕ → Upper → ℕ → Told

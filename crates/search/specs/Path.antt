@@ -7,7 +7,7 @@ use native.Mathlib.Numerals.{add-one}
 use native.Mathlib.Omega.{arith}
 use lib.ListN.{length, getD, take, drop, length-append}
 use lib.Seq.{take-suc, take-all, split-at}
-use Rattle.theory.specs.Ways.{drive}
+use Rattle.theory.specs.Ways.{drive, drive-append}
 use Rattle.theory.specs.Network.{Network, edge-arr, Edges}
 use Rattle.theory.specs.Unfold.{roads-of-edge, path-of}
 use Rattle.volume.specs.Format.{Volume}
@@ -41,12 +41,7 @@ pub record Driven (vol : Volume) (es : List ℕ) (x i y n : ℕ) : Type 0 where
 
 -- One chain after another
 
--- the second chain is driven from the arrival of the first
-drive-append : (M : Network) (es fs : List ℕ) (x : ℕ) → drive (Edges M) (es ++ fs) x ≡ drive (Edges M) fs (drive (Edges M) es x)
-drive-append M [] fs x = refl
-drive-append M (e ∷ es) fs x = drive-append M es fs (edge-arr M e x)
-
--- and its roads stand after the first one's
+-- the second chain's roads stand after the first one's
 path-append : (M : Network) (es fs : List ℕ) (x : ℕ) → path-of M (es ++ fs) x ≡ path-of M es x ++ path-of M fs (drive (Edges M) es x)
 unfolding path-of
 path-append M [] fs x = refl
@@ -106,7 +101,7 @@ module _ {vol : Volume} (S : Sound vol) {es : List ℕ} {x i y n : ℕ} (C : Cha
     arrives =
         U .duration
         ∙ ap (arrival vol e) (D .arrives)
-        ∙ sym (drive-append (networkOf vol) (take i es) (e ∷ []) x)
+        ∙ sym (drive-append (Edges (networkOf vol)) (take i es) (e ∷ []) x)
         ∙ ap (λ (l : List ℕ). arrivalOf vol l x) (sym next-is);
     number =
         let l = length-append (pathOf vol (take i es) x) (roadsOf vol e y) in
