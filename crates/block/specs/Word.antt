@@ -24,6 +24,10 @@ blockWord v k i = wordAt v (128 * k + i)
 unfoldable pub contentAt : List ℕ → ℕ → ℕ
 contentAt v w = blockWord v (w / 126) (w % 126)
 
--- the whole blocks of v hold content word w, and no volume of more blocks is read
+-- the content words of 3,381 blocks, the most that a volume has
+abbrev pub mostWords : ℕ
+mostWords = 426006
+
+-- the whole blocks of v hold content word w, and it is one that a volume can have
 abbrev pub Holds : List ℕ → ℕ → Type 0
-Holds v w = (w < 126 * (length v / 512)) × (w < 426006)
+Holds v w = (w < 126 * (length v / 512)) × (w < mostWords)

@@ -5,7 +5,7 @@ use std::num::wrapping_add_u32;
 ghost use mathlib.Core.Path.{_≡_};
 ghost use Prim.Native.Nat.{_+_, _*_, _/_, _%_, _≤_, _<_};
 ghost use lib.ListN.{length};
-ghost use Rattle.block.specs.Word.{wordAt, putWord, contentAt, Holds};
+ghost use Rattle.block.specs.Word.{wordAt, putWord, contentAt, mostWords, Holds};
 ghost use Rattle.block.specs.Sums.{Summed, Gained};
 ghost use Rattle.block.specs.Whole.{whole};
 ghost use Rattle.block.specs.Seal.{sealTo, sealed, sealing};
@@ -34,7 +34,7 @@ pub fn word(v: &[u8], i: usize) -> u32
 // Which word content word w is: two sums stand behind every 126 content words. Every record is read through this, so the division
 // is a multiplication and a shift: 532,611 / 2^26 is so little above 1 / 126 that w / 126 comes out for every w of 3,381 blocks.
 fn place(w: usize) -> usize
-    requires { ⌜ w < 426006 ⌝ }
+    requires { ⌜ w < mostWords ⌝ }
     ensures { λ r. ⌜ r ≡ w + 2 * (w / 126) ⌝ }
 {
     w + 2 * (w * 532611 / 67108864)

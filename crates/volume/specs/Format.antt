@@ -5,7 +5,7 @@ use Prim.Native.Nat.{ℕ, _+_, _*_, _/_, _^_, _≤_, _<_}
 use mathlib.Core.Path.{_≡_, refl}
 use mathlib.Core.List.{List}
 use lib.ListN.{length}
-use Rattle.block.specs.Word.{contentAt}
+use Rattle.block.specs.Word.{contentAt, mostWords}
 use Rattle.volume.specs.declared.tables.Counts.{Counts}
 use Rattle.volume.specs.declared.tables.Tables.{Tables}
 use Rattle.volume.specs.declared.tables.Point.{Point}
@@ -130,7 +130,7 @@ pub record Laid (v : List ℕ) (t : Tables) : Type 0 where
   pub edges : t .edges ≡ edgesAt (volumeOf v .roads) (volumeOf v .points)
   pub pieces : t .pieces ≡ piecesAt (volumeOf v .roads) (volumeOf v .points) (volumeOf v .edges)
   pub room : wordsOf (volumeOf v) ≤ 126 * (length v / 512)
-  pub limit : wordsOf (volumeOf v) ≤ 426006
+  pub limit : wordsOf (volumeOf v) ≤ mostWords
 
 -- q is point i
 pub record IsPoint (vol : Volume) (i : ℕ) (q : Point) : Type 0 where
