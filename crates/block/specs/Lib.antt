@@ -1,6 +1,7 @@
 pub mod Promises
 pub mod Word
 pub mod Sums
+pub mod Lanes
 pub mod Good
 pub mod Whole
 pub mod Seal

@@ -48,12 +48,6 @@ unfolding sumB
 sumB-next f k n =
     ap (sumB f k) (add-one n) ∙ ap (λ (m : ℕ). (sumB f k n + sumA f k m) % 2 ^ 32) (sym (add-one n))
 
--- a loop over the words
-
-pub summed-start : (v : List ℕ) (k : ℕ) (s : Sums) → s .a ≡ k + 1 → s .b ≡ 0 → SummedTo v k 0 s
-unfolding sumA sumB
-summed-start v k s a b = record { a-is = a; b-is = b }
-
 pub summed-next : (v : List ℕ) (k n x : ℕ) (s r : Sums) → SummedTo v k n s → x ≡ blockWord v k n → Gained s x r → SummedTo v k (n + 1) r
 summed-next v k n x s r h e g =
     let f = blockWord v k in

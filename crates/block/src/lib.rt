@@ -2,11 +2,13 @@
 // differ. Answers to document 01, "The volume", first paragraph. What the words mean is said in the
 // crate `volume`.
 use std::num::wrapping_add_u32;
+use std::num::wrapping_sub_u32;
 ghost use mathlib.Core.Path.{_≡_};
 ghost use Prim.Native.Nat.{_+_, _*_, _/_, _%_, _≤_, _<_};
 ghost use lib.ListN.{length};
 ghost use Rattle.block.specs.Word.{wordAt, putWord, contentAt, mostWords, Holds};
 ghost use Rattle.block.specs.Sums.{Summed, Gained};
+ghost use Rattle.block.specs.Lanes.{Joined};
 ghost use Rattle.block.specs.Whole.{whole};
 ghost use Rattle.block.specs.Seal.{sealTo, sealed, sealing};
 ghost use Rattle.block.specs.Good.{good, firstBad};
@@ -82,21 +84,11 @@ pub struct Sums {
     pub b: u32,
 }
 
-// The sums of a block and of the next one.
-pub struct TwoSums {
-    pub left: Sums,
-    pub right: Sums,
-}
-
-// The sums of block k before its first word.
-fn start(k: usize) -> Sums
-    requires { ⌜ k < 3381 ⌝ }
-    ensures { λ r. ⌜ (r .a ≡ k + 1) × (r .b ≡ 0) ⌝ }
+// The sums of no words.
+fn nothing() -> Sums
+    ensures { λ r. ⌜ (r .a ≡ 0) × (r .b ≡ 0) ⌝ }
 {
-    Sums {
-        a: k as u32 + 1,
-        b: 0,
-    }
+    Sums { a: 0, b: 0 }
 }
 
 // The sums with one word more: A gains the word, then B gains A.
@@ -108,36 +100,47 @@ fn gain(s: Sums, x: u32) -> Sums
     Sums { a, b }
 }
 
-// The sums A and B of block k.
+// A and B of block k after 124 words, from the sums of its four lanes: lane j has every fourth word from word j on. B counts each word
+// as often as there are words from it on, so a word of lane j four times as often as the lane's B does, less j.
+fn join(k: usize, l0: Sums, l1: Sums, l2: Sums, l3: Sums) -> Sums
+    requires { ⌜ k < 3381 ⌝ }
+    ensures { λ r. ⌜ Joined k l0 l1 l2 l3 r ⌝ }
+{
+    let behind = gain(gain(gain(nothing(), l3.a), l2.a), l1.a);
+    let once = wrapping_add_u32(wrapping_add_u32(l0.b, l1.b), wrapping_add_u32(l2.b, l3.b));
+    let twice = wrapping_add_u32(once, once);
+    let a = wrapping_add_u32(l0.a, behind.a);
+    let b = wrapping_sub_u32(wrapping_add_u32(twice, twice), behind.b);
+    let first = k as u32 + 1;
+    Sums {
+        a: wrapping_add_u32(first, a),
+        b: wrapping_add_u32(124 * first, b),
+    }
+}
+
+// The sums A and B of block k: 124 words in four lanes, none of which waits for another, so that the compiler adds them as vectors; then
+// the last two.
 fn sums_of(v: &[u8], k: usize) -> Sums
     requires { ⌜ 512 * k + 511 < length (now v) ⌝ }
     requires { ⌜ k < 3381 ⌝ }
     ensures { λ r. ⌜ Summed (now (v .entry)) k r ⌝ }
 {
-    let mut s = start(k);
+    let mut l0 = nothing();
+    let mut l1 = nothing();
+    let mut l2 = nothing();
+    let mut l3 = nothing();
     let mut i: usize = 0;
-    while i < 126 {
-        s = gain(s, word(v, 128 * k + i));
+    while i < 31 {
+        let at = 128 * k + 4 * i;
+        l0 = gain(l0, word(v, at));
+        l1 = gain(l1, word(v, at + 1));
+        l2 = gain(l2, word(v, at + 2));
+        l3 = gain(l3, word(v, at + 3));
         i += 1;
     }
-    s
-}
-
-// The sums of blocks k and k + 1 in one pass: neither block waits for the other's additions.
-fn sums_of_two(v: &[u8], k: usize) -> TwoSums
-    requires { ⌜ 512 * k + 1023 < length (now v) ⌝ }
-    requires { ⌜ k < 3380 ⌝ }
-    ensures { λ r. ⌜ Summed (now (v .entry)) k (r .left) × Summed (now (v .entry)) (k + 1) (r .right) ⌝ }
-{
-    let mut left = start(k);
-    let mut right = start(k + 1);
-    let mut i: usize = 0;
-    while i < 126 {
-        left = gain(left, word(v, 128 * k + i));
-        right = gain(right, word(v, 128 * (k + 1) + i));
-        i += 1;
-    }
-    TwoSums { left, right }
+    let x = word(v, 128 * k + 124);
+    let y = word(v, 128 * k + 125);
+    gain(gain(join(k, l0, l1, l2, l3), x), y)
 }
 
 // Are n bytes 1 to 3,381 whole blocks?
@@ -197,27 +200,17 @@ fn carries(v: &[u8], k: usize, s: Sums) -> bool
     s.b == word(v, 128 * k + 127)
 }
 
-// The first of the n blocks of v whose A or B differs from what stands there, or n. Two blocks at a time, then an odd last one.
+// The first of the n blocks of v whose A or B differs from what stands there, or n.
 pub fn first_bad(v: &[u8], n: usize) -> usize
     requires { ⌜ (512 * n ≤ length (now v)) × (n ≤ 3381) ⌝ }
     ensures { λ r. ⌜ (r ≡ firstBad (now (v .entry)) n) × (r ≤ n) ⌝ }
 {
     let mut k: usize = 0;
-    while k + 1 < n {
-        let s = sums_of_two(v, k);
-        if !carries(v, k, s.left) {
+    while k < n {
+        if !carries(v, k, sums_of(v, k)) {
             return k;
         }
-        if !carries(v, k + 1, s.right) {
-            return k + 1;
-        }
-        k += 2;
-    }
-    if k == n {
-        return n;
-    }
-    if carries(v, k, sums_of(v, k)) {
-        return n;
+        k += 1;
     }
     k
 }
