@@ -1,6 +1,6 @@
 -- What the pass over the edges learns from the words that it reads: of the earlier edges, of a piece, of its start, of an edge. The
 -- span is carried along: `pieceFit` and `piecesFit` are what the code's two passes over pieces answer.
-use Prim.Native.Nat.{ℕ, _+_, _-_, _<_, max}
+use Prim.Native.Nat.{ℕ, _+_, _-_, _≤_, _<_, max}
 use mathlib.Core.Path.{_≡_, refl, sym, _∙_, ap, ap₂}
 use mathlib.Core.Logic.{_≢_}
 use mathlib.Core.Bool.{Bool, true, false, not}
@@ -8,11 +8,12 @@ use native.Mathlib.Omega.{arith}
 use native.Mathlib.Numerals.{add-one}
 use native.Mathlib.Decide.{ℕ-discrete}
 use lib.Dec.{eqb, leb, ltb}
-use borrow.Author.Tests.{eq-eqb, ne-eqb, eqb-true, lt-ltb, ltb-true}
+use borrow.Author.Tests.{eq-eqb, ne-eqb, eqb-true, leb-true, lt-ltb, ltb-true}
 use Rattle.block.specs.Choose.{choose, choose-yes, choose-no, both, both-yes, both-no, both-left, both-right}
 use Rattle.block.specs.First.{allBelow, all-fails, below-all}
 use Rattle.volume.specs.Format.{Volume, day}
 use Rattle.volume.specs.Rules.{endsFit, placed, begins, edgeRule, spanRule, mostSpan, pieceFits, pieceSpan, pieceRule, greatestSpan, newEnds, sameEnds, startFits, start, empty, roadJoins, pairJoins}
+use Rattle.volume.specs.Passes.{placed-fact, begins-next}
 use Rattle.volume.specs.declared.edges.Fit.{Fit}
 use Rattle.volume.specs.declared.edges.Fit.the-variants.{Span, Fault as FitFault}
 
@@ -158,3 +159,46 @@ edge-repeats vol e q = go (endsFit (vol .junctions) (vol .edge-from e) (vol .edg
     go : (t : Bool) → endsFit (vol .junctions) (vol .edge-from e) (vol .edge-to e) ≡ t → edgeRule vol e ≡ false
     go true h = both-yes _ h ∙ both-no _ q
     go false h = both-no _ h
+
+-- an edge that obeys
+
+-- the five parts of the edge rule
+pub record EdgeTests (vol : Volume) (e : ℕ) : Type 0 where
+  pub ends : endsFit (vol .junctions) (vol .edge-from e) (vol .edge-to e) ≡ true
+  pub new : newEnds vol e ≡ true
+  pub place : placed (begins (vol .edge-first) (vol .edge-pieces) e) (vol .pieces) (vol .edge-first e) (vol .edge-pieces e) ≡ true
+  pub pieces : allBelow (vol .edge-pieces e) (pieceRule vol e) ≡ true
+  pub span : spanRule vol e ≡ true
+
+pub edge-tests : (vol : Volume) (e : ℕ) → edgeRule vol e ≡ true → EdgeTests vol e
+unfolding edgeRule
+edge-tests vol e q =
+    let ends = endsFit (vol .junctions) (vol .edge-from e) (vol .edge-to e) in
+    let place = placed (begins (vol .edge-first) (vol .edge-pieces) e) (vol .pieces) (vol .edge-first e) (vol .edge-pieces e) in
+    let pieces = allBelow (vol .edge-pieces e) (pieceRule vol e) in
+    let q₁ = both-right ends _ q in
+    let q₂ = both-right (newEnds vol e) _ q₁ in
+    let q₃ = both-right place _ q₂ in
+    record {
+      ends = both-left ends _ q;
+      new = both-left (newEnds vol e) _ q₁;
+      place = both-left place _ q₂;
+      pieces = both-left pieces (spanRule vol e) q₃;
+      span = both-right pieces (spanRule vol e) q₃;
+    }
+
+pub edge-spans : (vol : Volume) (e : ℕ) → spanRule vol e ≡ true
+    → (vol .edge-span e ≡ greatestSpan vol (vol .edge-first e) (vol .edge-pieces e)) × (vol .edge-span e ≤ mostSpan)
+unfolding spanRule
+edge-spans vol e q =
+    let g = greatestSpan vol (vol .edge-first e) (vol .edge-pieces e) in (
+      eqb-true (vol .edge-span e) g (both-left (eqb (vol .edge-span e) g) (leb (vol .edge-span e) mostSpan) q),
+      leb-true (vol .edge-span e) mostSpan (both-right (eqb (vol .edge-span e) g) (leb (vol .edge-span e) mostSpan) q),
+    )
+
+-- where the next edge's pieces begin
+pub begin-next : (vol : Volume) (e : ℕ) → edgeRule vol e ≡ true
+    → begins (vol .edge-first) (vol .edge-pieces) (e + 1) ≡ begins (vol .edge-first) (vol .edge-pieces) e + vol .edge-pieces e
+begin-next vol e q =
+    begins-next (vol .edge-first) (vol .edge-pieces) e
+    ∙ ap (λ (b : ℕ). b + vol .edge-pieces e) (placed-fact _ _ _ _ (edge-tests vol e q .place) .begins-at)

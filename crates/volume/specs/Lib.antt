@@ -9,3 +9,4 @@ pub mod OpenSteps
 pub mod Opened
 pub mod Index
 pub mod Repeats
+pub mod Kept

@@ -17,6 +17,7 @@ use Rattle.volume.specs.Format.{Volume, volumeOf, countsOf, wordsOf, tab
 use Rattle.volume.specs.Rules.{longest, mostSpan, empty, endsFit, begins, placed, pointFits, nextSecond, nextDuration, pointRule, second, duration, roadRule, allObey, roadsRule, start, sameEnds, newEnds, startFits, roadJoins, meet, pairJoins, pieceFits, pieceRule, pieceSpan, greatestSpan, spanRule, edgeRule, edgesRule, countsRule, headFits, fewestBlocks, firstRoad, firstEdge}
 use Rattle.volume.specs.Sound.{Points, SoundRoad, RoadPiece, PairPiece, SoundEdge, Sound}
 use Rattle.volume.specs.Passes.{ends-fact, placed-fact}
+use Rattle.volume.specs.EdgeSteps.{EdgeTests, edge-tests, edge-spans}
 use Rattle.volume.specs.Open.{recordsOf, openOf}
 use Rattle.volume.specs.OpenSteps.{head-few, counted-of, laid-of}
 use Rattle.volume.specs.declared.tables.Counts.{Counts}
@@ -152,32 +153,7 @@ module _ (vol : Volume) (e : ℕ) where
       let s = not-true (sameEnds vol e d) (all-below e (λ d. not (sameEnds vol e d)) q d h) in
       eqb-false (vol .edge-to d) (vol .edge-to e) (sym (both-yes (eqb (vol .edge-to d) (vol .edge-to e)) (eq-eqb (vol .edge-from d) (vol .edge-from e) f)) ∙ s)
 
-  -- the five parts of the edge rule
-  record EdgeTests : Type 0 where
-    ends : endsFit (vol .junctions) (vol .edge-from e) (vol .edge-to e) ≡ true
-    new : newEnds vol e ≡ true
-    place : placed (begins (vol .edge-first) (vol .edge-pieces) e) (vol .pieces) (vol .edge-first e) (vol .edge-pieces e) ≡ true
-    pieces : allBelow (vol .edge-pieces e) (pieceRule vol e) ≡ true
-    span : spanRule vol e ≡ true
-
-  edge-tests : edgeRule vol e ≡ true → EdgeTests
-  unfolding edgeRule
-  edge-tests q =
-      let ends = endsFit (vol .junctions) (vol .edge-from e) (vol .edge-to e) in
-      let place = placed (begins (vol .edge-first) (vol .edge-pieces) e) (vol .pieces) (vol .edge-first e) (vol .edge-pieces e) in
-      let pieces = allBelow (vol .edge-pieces e) (pieceRule vol e) in
-      let q₁ = both-right ends _ q in
-      let q₂ = both-right (newEnds vol e) _ q₁ in
-      let q₃ = both-right place _ q₂ in
-      record {
-        ends = both-left ends _ q;
-        new = both-left (newEnds vol e) _ q₁;
-        place = both-left place _ q₂;
-        pieces = both-left pieces (spanRule vol e) q₃;
-        span = both-right pieces (spanRule vol e) q₃;
-      }
-
-  module _ (t : EdgeTests) where
+  module _ (t : EdgeTests vol e) where
     piece-starts : (i : ℕ) → i < vol .edge-pieces e
         → (start vol e i < vol .period) × (i ≡ 0 → start vol e i ≡ 0) × (0 < i → start vol e (i - 1) < start vol e i)
     unfolding pieceRule
@@ -191,16 +167,8 @@ module _ (vol : Volume) (e : ℕ) where
         both-right (startFits (vol .period) i (start vol e (i - 1)) (start vol e i)) _
         (all-below (vol .edge-pieces e) (pieceRule vol e) (t .pieces) i h)
 
-    span-facts : (vol .edge-span e ≡ greatestSpan vol (vol .edge-first e) (vol .edge-pieces e)) × (vol .edge-span e ≤ mostSpan)
-    unfolding spanRule
-    span-facts =
-        let g = greatestSpan vol (vol .edge-first e) (vol .edge-pieces e) in (
-          eqb-true (vol .edge-span e) g (both-left (eqb (vol .edge-span e) g) (leb (vol .edge-span e) mostSpan) (t .span)),
-          leb-true (vol .edge-span e) mostSpan (both-right (eqb (vol .edge-span e) g) (leb (vol .edge-span e) mostSpan) (t .span)),
-        )
-
     piece-spans : (i : ℕ) → i < vol .edge-pieces e → pieceSpan vol (vol .edge-first e + i) ≤ vol .edge-span e
-    piece-spans i h = omega (arith, span-within vol (vol .edge-first e) (vol .edge-pieces e) i h, span-facts .0)
+    piece-spans i h = omega (arith, span-within vol (vol .edge-first e) (vol .edge-pieces e) i h, edge-spans vol e (t .span) .0)
 
     edge-fact : SoundEdge vol e
     edge-fact =
@@ -218,7 +186,7 @@ module _ (vol : Volume) (e : ℕ) where
           in-period = λ i h. piece-starts i h .0;
           road-piece = λ i h z. road-piece-fact (vol .edge-first e + i) z (piece-holds i h) (piece-spans i h);
           pair-piece = λ i h ne. pair-piece-fact (vol .edge-first e + i) ne (piece-holds i h) (piece-spans i h);
-          span = span-facts .1;
+          span = edge-spans vol e (t .span) .1;
         }
 
 -- the whole volume

@@ -41,6 +41,14 @@ ends-fact junctions from to e =
       to-in = ltb-true to junctions (both-right (ltb from junctions) (ltb to junctions) r);
     }
 
+-- ends and places are tested against a count that is the volume's
+
+pub ends-counted : (m n from to : ℕ) {b : Bool} → m ≡ n → endsFit m from to ≡ b → endsFit n from to ≡ b
+ends-counted m n from to e q = rw e at q
+
+pub placed-counted : (m n begin first number : ℕ) {b : Bool} → m ≡ n → placed begin m first number ≡ b → placed begin n first number ≡ b
+placed-counted m n begin first number e q = rw e at q
+
 -- parts that are placed
 pub record Placed (begin total first number : ℕ) : Type 0 where
   pub some : 1 ≤ number

@@ -1,4 +1,11 @@
 // The edge rules.
+use crate::index::index_edges;
+use crate::kept::END;
+use crate::kept::SPAN;
+use crate::kept::START;
+use crate::kept::keep;
+use crate::kept::kept_part;
+use crate::repeats::first_repeat;
 use crate::roads::Pass;
 use crate::roads::ends_fit;
 use crate::roads::is_placed;
@@ -17,11 +24,13 @@ use crate::tables::piece_start;
 use crate::tables::road_from;
 use crate::tables::road_to;
 ghost use mathlib.Core.Path.{_≡_};
-ghost use Prim.Native.Nat.{ℕ, _+_, _-_, _^_, _≤_, _<_, max};
+ghost use Prim.Native.Nat.{ℕ, _+_, _-_, _*_, _^_, _≤_, _<_, max};
 ghost use mathlib.Core.List.{List};
-ghost use Rattle.volume.specs.Format.{volumeOf, Counted, Laid, day};
+ghost use lib.ListN.{length};
+ghost use Rattle.volume.specs.Format.{volumeOf, Counted, Few, Laid, day};
 ghost use Rattle.volume.specs.Rules.{begins, roadJoins, meet, pairJoins, startFits, edgeRule};
 ghost use Rattle.volume.specs.EdgeSteps.{pieceFit, piecesFit};
+ghost use Rattle.volume.specs.Kept.{Kept};
 ghost use Rattle.volume.specs.Passes.{edgesPass};
 ghost use Rattle.volume.specs.Repeats.{Fresh, FirstRepeat};
 
@@ -66,9 +75,8 @@ fn do_meet(l0: usize, l1: usize, r0: usize, r1: usize, from: usize, to: usize) -
 
 // Are l and r edges below e that lead in turn from `from` to `to` and meet below both? Their four ends are read before any is
 // compared, so that no read waits for a comparison.
-fn pair_joins(v: &[u8], t: Tables, e: usize, l: usize, r: usize, from: usize, to: usize) -> bool
-    requires { ⌜ Laid (now v) t ⌝ }
-    requires { ⌜ e < volumeOf (now v) .edges ⌝ }
+fn pair_joins(v: &[u8], kept: &[u16], e: usize, l: usize, r: usize, from: usize, to: usize) -> bool
+    requires { ⌜ Kept (volumeOf (now v)) e (now kept) ⌝ }
     ensures { λ b. ⌜ b ≡ pairJoins (volumeOf (now (v .entry))) e l r from to ⌝ }
 {
     if e <= l {
@@ -77,17 +85,27 @@ fn pair_joins(v: &[u8], t: Tables, e: usize, l: usize, r: usize, from: usize, to
     if e <= r {
         return false;
     }
-    let l0 = edge_from(v, t, l);
-    let l1 = edge_to(v, t, l);
-    let r0 = edge_from(v, t, r);
-    let r1 = edge_to(v, t, r);
+    let l0 = kept_part(kept, l, START);
+    let l1 = kept_part(kept, l, END);
+    let r0 = kept_part(kept, r, START);
+    let r1 = kept_part(kept, r, END);
     do_meet(l0, l1, r0, r1, from, to)
 }
 
 // The span of piece p of edge e, which leads from `from` to `to`.
-fn piece_fit(v: &[u8], t: Tables, roads: usize, e: usize, p: usize, from: usize, to: usize) -> Fit
+fn piece_fit(
+    v: &[u8],
+    t: Tables,
+    kept: &[u16],
+    roads: usize,
+    e: usize,
+    p: usize,
+    from: usize,
+    to: usize,
+) -> Fit
     requires { ⌜ Laid (now v) t ⌝ }
-    requires { ⌜ (roads ≡ volumeOf (now v) .roads) × (e < volumeOf (now v) .edges) × (p < volumeOf (now v) .pieces) ⌝ }
+    requires { ⌜ Kept (volumeOf (now v)) e (now kept) ⌝ }
+    requires { ⌜ (roads ≡ volumeOf (now v) .roads) × (p < volumeOf (now v) .pieces) ⌝ }
     requires { ⌜ (from ≡ volumeOf (now v) .edge-from e) × (to ≡ volumeOf (now v) .edge-to e) ⌝ }
     ensures { λ r. ⌜ r ≡ pieceFit (volumeOf (now (v .entry))) e p ⌝ }
 {
@@ -99,8 +117,8 @@ fn piece_fit(v: &[u8], t: Tables, roads: usize, e: usize, p: usize, from: usize,
         }
         return Fit::Fault;
     }
-    if pair_joins(v, t, e, left, right, from, to) {
-        return Fit::Span(edge_span(v, t, left) + edge_span(v, t, right));
+    if pair_joins(v, kept, e, left, right, from, to) {
+        return Fit::Span(kept_part(kept, left, SPAN) + kept_part(kept, right, SPAN));
     }
     Fit::Fault
 }
@@ -128,8 +146,17 @@ fn greater(a: usize, b: usize) -> usize
 }
 
 // The greatest span of the n pieces of edge e, which begin at `first`.
-fn pieces_fit(v: &[u8], t: Tables, roads: usize, e: usize, first: usize, n: usize) -> Fit
+fn pieces_fit(
+    v: &[u8],
+    t: Tables,
+    kept: &[u16],
+    roads: usize,
+    e: usize,
+    first: usize,
+    n: usize,
+) -> Fit
     requires { ⌜ Laid (now v) t ⌝ }
+    requires { ⌜ Kept (volumeOf (now v)) e (now kept) ⌝ }
     requires { ⌜ (roads ≡ volumeOf (now v) .roads) × (e < volumeOf (now v) .edges) × (first + n ≤ volumeOf (now v) .pieces) ⌝ }
     requires { ⌜ (first ≡ volumeOf (now v) .edge-first e) × (n ≡ volumeOf (now v) .edge-pieces e) ⌝ }
     ensures { λ r. ⌜ r ≡ piecesFit (volumeOf (now (v .entry))) e ⌝ }
@@ -144,7 +171,7 @@ fn pieces_fit(v: &[u8], t: Tables, roads: usize, e: usize, first: usize, n: usiz
         if !start_fits(i, before, start) {
             return Fit::Fault;
         }
-        let Fit::Span(span) = piece_fit(v, t, roads, e, first + i, from, to) else {
+        let Fit::Span(span) = piece_fit(v, t, kept, roads, e, first + i, from, to) else {
             return Fit::Fault;
         };
         greatest = greater(greatest, span);
@@ -155,8 +182,9 @@ fn pieces_fit(v: &[u8], t: Tables, roads: usize, e: usize, first: usize, n: usiz
 }
 
 // Does edge e obey, where no earlier edge has its ends? Its pieces are to begin at `begin`.
-fn edge_fits(v: &[u8], t: Tables, c: Counts, e: usize, begin: usize) -> bool
+fn edge_fits(v: &[u8], t: Tables, kept: &[u16], c: Counts, e: usize, begin: usize) -> bool
     requires { ⌜ Laid (now v) t ⌝ }
+    requires { ⌜ Kept (volumeOf (now v)) e (now kept) ⌝ }
     requires { ⌜ Counted (volumeOf (now v)) c ⌝ }
     requires { ⌜ e < volumeOf (now v) .edges ⌝ }
     requires { ⌜ Fresh (volumeOf (now v)) e ⌝ }
@@ -173,7 +201,7 @@ fn edge_fits(v: &[u8], t: Tables, c: Counts, e: usize, begin: usize) -> bool
     if !is_placed(begin, c.pieces, at, n) {
         return false;
     }
-    let Fit::Span(greatest) = pieces_fit(v, t, c.roads, e, at, n) else {
+    let Fit::Span(greatest) = pieces_fit(v, t, kept, c.roads, e, at, n) else {
         return false;
     };
     let span = edge_span(v, t, e);
@@ -184,20 +212,23 @@ fn edge_fits(v: &[u8], t: Tables, c: Counts, e: usize, begin: usize) -> bool
 }
 
 // The pass over all edges, of which `repeat` is the first whose ends an earlier one has: the first edge at fault, or E where pieces
-// are left over.
-pub fn edges_pass(v: &[u8], t: Tables, c: Counts, repeat: usize) -> Pass
+// are left over. It keeps what later pairs ask of an edge.
+fn pass_keeping(v: &[u8], t: Tables, c: Counts, repeat: usize, kept: &mut [u16]) -> Pass
     requires { ⌜ Laid (now v) t ⌝ }
     requires { ⌜ Counted (volumeOf (now v)) c ⌝ }
+    requires { ⌜ Few c ⌝ }
     requires { ⌜ FirstRepeat (volumeOf (now v)) repeat ⌝ }
+    requires { ⌜ 3 * c .edges ≤ length (now kept) ⌝ }
     ensures { λ r. ⌜ r ≡ edgesPass (volumeOf (now (v .entry))) ⌝ }
 {
     let mut begin: usize = 0;
     let mut e: usize = 0;
     while e < repeat {
-        if !edge_fits(v, t, c, e, begin) {
+        if !edge_fits(v, t, kept, c, e, begin) {
             return Pass::Fault(e);
         }
-        begin = edge_first(v, t, e) + edge_pieces(v, t, e);
+        keep(v, t, kept, e);
+        begin += edge_pieces(v, t, e);
         e += 1;
     }
     if e < c.edges {
@@ -207,4 +238,34 @@ pub fn edges_pass(v: &[u8], t: Tables, c: Counts, repeat: usize) -> Pass
         return Pass::Fault(e);
     }
     Pass::Fine
+}
+
+// The pass over all edges. The list holds the index until the first repeat is found, and then what is kept of the edges that passed.
+fn pass_within(v: &[u8], t: Tables, c: Counts, list: &mut [u16]) -> Pass
+    requires { ⌜ Laid (now v) t ⌝ }
+    requires { ⌜ Counted (volumeOf (now v)) c ⌝ }
+    requires { ⌜ Few c ⌝ }
+    requires { ⌜ 3 * c .edges ≤ length (now list) ⌝ }
+    ensures { λ r. ⌜ r ≡ edgesPass (volumeOf (now (v .entry))) ⌝ }
+{
+    let mut first = [0u16; 1024];
+    index_edges(v, t, c, &mut first, list);
+    let repeat = first_repeat(v, t, c, &first, list);
+    pass_keeping(v, t, c, repeat, list)
+}
+
+// The pass over all edges: the first at fault, or E where pieces are left over. A list of the full length takes longer to make than
+// a volume of a block or two takes to read, so one of few edges gets a short list.
+pub fn edges_pass(v: &[u8], t: Tables, c: Counts) -> Pass
+    requires { ⌜ Laid (now v) t ⌝ }
+    requires { ⌜ Counted (volumeOf (now v)) c ⌝ }
+    requires { ⌜ Few c ⌝ }
+    ensures { λ r. ⌜ r ≡ edgesPass (volumeOf (now (v .entry))) ⌝ }
+{
+    if c.edges <= 1024 {
+        let mut list = [0u16; 3072];
+        return pass_within(v, t, c, &mut list);
+    }
+    let mut list = [0u16; 49152];
+    pass_within(v, t, c, &mut list)
 }

@@ -1,8 +1,6 @@
 // Volumes: what the content words mean, the road and edge rules, and opening. Answers to document 01,
 // "The volume". Travel times are said in the crate `travel`.
 use crate::edges::edges_pass;
-use crate::index::index_edges;
-use crate::repeats::first_repeat;
 use crate::roads::Pass;
 use crate::roads::roads_pass;
 use crate::tables::Counts;
@@ -18,11 +16,11 @@ ghost use lib.ListN.{length};
 ghost use Rattle.block.specs.Choose.{choose};
 ghost use Rattle.volume.specs.Format.{volumeOf, countsOf, Counted, Few, Laid};
 ghost use Rattle.volume.specs.Rules.{headFits, fillerZero, countsRule};
-ghost use Rattle.volume.specs.Passes.{edgesPass};
 ghost use Rattle.volume.specs.Open.{recordsOf, openOf};
 
 pub mod edges;
 pub mod index;
+pub mod kept;
 pub mod repeats;
 pub mod roads;
 pub mod tables;
@@ -80,35 +78,6 @@ fn filler_zero(v: &[u8], words: usize, blocks: usize) -> bool
     true
 }
 
-// The pass over all edges, with the index that it walks: `next` has room for it.
-fn edges_indexed(v: &[u8], t: Tables, c: Counts, next: &mut [u16]) -> Pass
-    requires { ⌜ Laid (now v) t ⌝ }
-    requires { ⌜ Counted (volumeOf (now v)) c ⌝ }
-    requires { ⌜ Few c ⌝ }
-    requires { ⌜ c .edges ≤ length (now next) ⌝ }
-    ensures { λ r. ⌜ r ≡ edgesPass (volumeOf (now (v .entry))) ⌝ }
-{
-    let mut first = [0u16; 1024];
-    index_edges(v, t, c, &mut first, next);
-    edges_pass(v, t, c, first_repeat(v, t, c, &first, next))
-}
-
-// The pass over all edges. A list of 16,384 numbers takes longer to make than a volume of a block or two takes to read, so one of
-// few edges gets a short list.
-fn edges_opened(v: &[u8], t: Tables, c: Counts) -> Pass
-    requires { ⌜ Laid (now v) t ⌝ }
-    requires { ⌜ Counted (volumeOf (now v)) c ⌝ }
-    requires { ⌜ Few c ⌝ }
-    ensures { λ r. ⌜ r ≡ edgesPass (volumeOf (now (v .entry))) ⌝ }
-{
-    if c.edges <= 1024 {
-        let mut next = [0u16; 1024];
-        return edges_indexed(v, t, c, &mut next);
-    }
-    let mut next = [0u16; 16384];
-    edges_indexed(v, t, c, &mut next)
-}
-
 // Roads, then edges.
 fn open_records(v: &[u8], t: Tables, c: Counts) -> Opening
     requires { ⌜ Laid (now v) t ⌝ }
@@ -120,7 +89,7 @@ fn open_records(v: &[u8], t: Tables, c: Counts) -> Opening
     if let Pass::Fault(k) = roads {
         return Opening::Refused(5, k as u64);
     }
-    let edges = edges_opened(v, t, c);
+    let edges = edges_pass(v, t, c);
     if let Pass::Fault(e) = edges {
         return Opening::Refused(6, e as u64);
     }

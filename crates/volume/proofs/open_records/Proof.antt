@@ -21,8 +21,8 @@ returns c =
 enum-told : tie.Need-enum-told
 enum-told c = search needs
 
-edges-opened-requires : tie.Need-edges-opened-requires
-edges-opened-requires c κs = let s = c .before .before .before .before in (s .pre .0, (counted-of _ _ (s .pre .1 .0), s .pre .1 .1))
+edges-pass-requires : tie.Need-edges-pass-requires
+edges-pass-requires c κs = let s = c .before .before .before .before in (s .pre .0, (counted-of _ _ (s .pre .1 .0), s .pre .1 .1))
 
 enum-known-edges : tie.Need-enum-known-edges
 enum-known-edges c = search needs
@@ -33,7 +33,7 @@ returns-2 c =
     let vol = volumeOf (s .args .v .now) in
     let told = c .before .before .before .before in
     let p = pass-whole _ _ _ _ _ (sym (told .enum-told .given .1) ∙ told .before .before .roads-pass .ensures) in
-    let f = pass-faulty _ _ _ _ _ _ (sym (c .before .edges .given .1) ∙ c .before .before .before .edges-opened .ensures) in
+    let f = pass-faulty _ _ _ _ _ _ (sym (c .before .edges .given .1) ∙ c .before .before .before .edges-pass .ensures) in
     sym (records-edge vol _ p (f .0) (f .1))
 
 enum-told-2 : tie.Need-enum-told-2
@@ -45,7 +45,7 @@ returns-3 c =
     let vol = volumeOf (s .args .v .now) in
     let told = c .before .before .before in
     let p = pass-whole _ _ _ _ _ (sym (told .enum-told .given .1) ∙ told .before .before .roads-pass .ensures) in
-    let q = pass-whole _ _ _ _ _ (sym (c .enum-told2 .given .1) ∙ c .before .before .edges-opened .ensures) in
+    let q = pass-whole _ _ _ _ _ (sym (c .enum-told2 .given .1) ∙ c .before .before .edges-pass .ensures) in
     sym (records-fine vol _ p q (s .pre .1 .0))
 
 pub open-records-spec : {M : Type 1} → statement M
@@ -56,7 +56,7 @@ open-records-spec =
     enum-known-roads
     returns
     enum-told
-    edges-opened-requires
+    edges-pass-requires
     enum-known-edges
     returns-2
     enum-told-2

@@ -3,7 +3,7 @@ use native.Mathlib.Omega.{arith}
 use borrow.Author.Tests.{not-true, not-false, eq-eqb, ne-eqb}
 use borrow.Author.Needs.{needs}
 use Rattle.volume.specs.EdgeSteps.{edge-rule, span-rule, fit-span, fit-fault}
-use Rattle.volume.specs.Passes.{ends-fact, placed-fact}
+use Rattle.volume.specs.Passes.{ends-fact, ends-counted, placed-fact, placed-counted}
 use Rattle.volume.specs.Format.{volumeOf}
 use Rattle.block.specs.Choose.{both-yes, both-no}
 use Rattle.volume.proofs.edges.edge_fits.Statement.{statement}
@@ -20,9 +20,9 @@ ends-fit-requires c κs = search needs
 
 returns : tie.Need-returns
 returns c =
-    let s = c .before .before .before .before .before in
-    sym (edge-rule (volumeOf (s .args .v .now)) (s .args .e) _ _ _ _ _ (c .before .before .before .edge-from .ensures .0) (c .before .before .edge-to .ensures .0) refl refl (s .pre .1 .1 .1 .1)
-    ∙ both-no _ (let t = sym (c .before .ends-fit .ensures) ∙ not-true _ (c .if1 .taken) in let j = s .pre .1 .0 .junctions in (cc)))
+    let s = c .before .before .before .before .before .before in
+    sym (edge-rule (volumeOf (s .args .v .now)) (s .args .e) _ _ _ _ _ (c .before .before .before .edge-from .ensures .0) (c .before .before .edge-to .ensures .0) refl refl (s .pre .1 .1 .1 .1 .1)
+    ∙ both-no _ (ends-counted _ _ _ _ (s .pre .1 .1 .0 .junctions) (sym (c .before .ends-fit .ensures) ∙ not-true _ (c .if1 .taken))))
 
 edge-first-requires : tie.Need-edge-first-requires
 edge-first-requires c κs = search needs
@@ -35,21 +35,21 @@ is-placed-requires c κs = search needs
 
 returns-2 : tie.Need-returns-2
 returns-2 c =
-    let s = c .before .before .before .before .before .before .before .before .before in
+    let s = c .before .before .before .before .before .before .before .before .before .before in
     let fit = ends-fact _ _ _ (sym (c .before .before .before .before .before .ends-fit .ensures) ∙ not-false _ (c .before .before .before .before .if1 .left)) in
-    let j = s .pre .1 .0 .junctions in
+    let j = s .pre .1 .1 .0 .junctions in
     let f = c .before .before .before .before .before .before .before .edge-from .ensures .0 in
     let g = c .before .before .before .before .before .before .edge-to .ensures .0 in
-    sym (edge-rule (volumeOf (s .args .v .now)) (s .args .e) _ _ _ _ _ (c .before .before .before .before .before .before .before .edge-from .ensures .0) (c .before .before .before .before .before .before .edge-to .ensures .0) (c .before .before .before .edge-first .ensures .0) (c .before .before .edge-pieces .ensures .0) (s .pre .1 .1 .1 .1)
-    ∙ both-yes _ (let t = sym (c .before .before .before .before .before .ends-fit .ensures) ∙ not-false _ (c .before .before .before .before .if1 .left) in let j = s .pre .1 .0 .junctions in (cc))
-    ∙ both-yes _ (s .pre .1 .1 .1 .0 (omega (arith, fit .from-in)) (omega (arith, fit .to-in)))
-    ∙ both-no _ (let t = sym (c .before .is-placed .ensures) ∙ not-true _ (c .if2 .taken) in let q = s .pre .1 .0 .pieces in (cc)))
+    sym (edge-rule (volumeOf (s .args .v .now)) (s .args .e) _ _ _ _ _ (c .before .before .before .before .before .before .before .edge-from .ensures .0) (c .before .before .before .before .before .before .edge-to .ensures .0) (c .before .before .before .edge-first .ensures .0) (c .before .before .edge-pieces .ensures .0) (s .pre .1 .1 .1 .1 .1)
+    ∙ both-yes _ (ends-counted _ _ _ _ (s .pre .1 .1 .0 .junctions) (sym (c .before .before .before .before .before .ends-fit .ensures) ∙ not-false _ (c .before .before .before .before .if1 .left)))
+    ∙ both-yes _ (s .pre .1 .1 .1 .1 .0 (omega (arith, fit .from-in)) (omega (arith, fit .to-in)))
+    ∙ both-no _ (placed-counted _ _ _ _ _ (s .pre .1 .1 .0 .pieces) (sym (c .before .is-placed .ensures) ∙ not-true _ (c .if2 .taken))))
 
 pieces-fit-requires : tie.Need-pieces-fit-requires
 pieces-fit-requires c κs =
-    let s = c .before .before .before .before .before .before .before .before .before in
+    let s = c .before .before .before .before .before .before .before .before .before .before in
     let q = placed-fact _ _ _ _ (sym (c .before .is-placed .ensures) ∙ not-false _ (c .if2 .left)) in
-    (s .pre .0, ((s .pre .1 .0 .roads, s .pre .1 .1 .0, omega (arith, q .inside, s .pre .1 .0 .pieces)), (c .before .before .before .edge-first .ensures .0, c .before .before .edge-pieces .ensures .0)))
+    (s .pre .0, (s .pre .1 .0, ((s .pre .1 .1 .0 .roads, s .pre .1 .1 .1 .0, omega (arith, q .inside, s .pre .1 .1 .0 .pieces)), (c .before .before .before .edge-first .ensures .0, c .before .before .edge-pieces .ensures .0))))
 
 enum-known-greatest : tie.Need-enum-known-greatest
 enum-known-greatest c = search needs
@@ -59,48 +59,48 @@ enum-told c = search needs
 
 returns-3 : tie.Need-returns-3
 returns-3 c =
-    let s = c .before .before .before .before .before .before .before .before .before .before .before .before in
+    let s = c .before .before .before .before .before .before .before .before .before .before .before .before .before in
     let fit = ends-fact _ _ _ (sym (c .before .before .before .before .before .before .before .before .ends-fit .ensures) ∙ not-false _ (c .before .before .before .before .before .before .before .if1 .left)) in
-    let j = s .pre .1 .0 .junctions in
+    let j = s .pre .1 .1 .0 .junctions in
     let f = c .before .before .before .before .before .before .before .before .before .before .edge-from .ensures .0 in
     let g = c .before .before .before .before .before .before .before .before .before .edge-to .ensures .0 in
-    sym (edge-rule (volumeOf (s .args .v .now)) (s .args .e) _ _ _ _ _ (c .before .before .before .before .before .before .before .before .before .before .edge-from .ensures .0) (c .before .before .before .before .before .before .before .before .before .edge-to .ensures .0) (c .before .before .before .before .before .before .edge-first .ensures .0) (c .before .before .before .before .before .edge-pieces .ensures .0) (s .pre .1 .1 .1 .1)
-    ∙ both-yes _ (let t = sym (c .before .before .before .before .before .before .before .before .ends-fit .ensures) ∙ not-false _ (c .before .before .before .before .before .before .before .if1 .left) in let j = s .pre .1 .0 .junctions in (cc))
-    ∙ both-yes _ (s .pre .1 .1 .1 .0 (omega (arith, fit .from-in)) (omega (arith, fit .to-in)))
-    ∙ both-yes _ (let t = sym (c .before .before .before .before .is-placed .ensures) ∙ not-false _ (c .before .before .before .if2 .left) in let q = s .pre .1 .0 .pieces in (cc))
+    sym (edge-rule (volumeOf (s .args .v .now)) (s .args .e) _ _ _ _ _ (c .before .before .before .before .before .before .before .before .before .before .edge-from .ensures .0) (c .before .before .before .before .before .before .before .before .before .edge-to .ensures .0) (c .before .before .before .before .before .before .edge-first .ensures .0) (c .before .before .before .before .before .edge-pieces .ensures .0) (s .pre .1 .1 .1 .1 .1)
+    ∙ both-yes _ (ends-counted _ _ _ _ (s .pre .1 .1 .0 .junctions) (sym (c .before .before .before .before .before .before .before .before .ends-fit .ensures) ∙ not-false _ (c .before .before .before .before .before .before .before .if1 .left)))
+    ∙ both-yes _ (s .pre .1 .1 .1 .1 .0 (omega (arith, fit .from-in)) (omega (arith, fit .to-in)))
+    ∙ both-yes _ (placed-counted _ _ _ _ _ (s .pre .1 .1 .0 .pieces) (sym (c .before .before .before .before .is-placed .ensures) ∙ not-false _ (c .before .before .before .if2 .left)))
     ∙ both-no _ (fit-fault _ _ (sym (c .enum-told .given .1) ∙ c .before .before .pieces-fit .ensures)))
 
 edge-span-requires : tie.Need-edge-span-requires
-edge-span-requires c κs = let s = c .before .before .before .before .before .before .before .before .before .before .before .before .before in (s .pre .0, s .pre .1 .1 .0)
+edge-span-requires c κs = let s = c .before .before .before .before .before .before .before .before .before .before .before .before .before .before in (s .pre .0, s .pre .1 .1 .1 .0)
 
 returns-4 : tie.Need-returns-4
 returns-4 c =
-    let s = c .before .before .before .before .before .before .before .before .before .before .before .before .before .before .before in
+    let s = c .before .before .before .before .before .before .before .before .before .before .before .before .before .before .before .before in
     let fit = ends-fact _ _ _ (sym (c .before .before .before .before .before .before .before .before .before .before .before .ends-fit .ensures) ∙ not-false _ (c .before .before .before .before .before .before .before .before .before .before .if1 .left)) in
-    let j = s .pre .1 .0 .junctions in
+    let j = s .pre .1 .1 .0 .junctions in
     let f = c .before .before .before .before .before .before .before .before .before .before .before .before .before .edge-from .ensures .0 in
     let g = c .before .before .before .before .before .before .before .before .before .before .before .before .edge-to .ensures .0 in
     let spans = fit-span _ _ _ (sym (c .before .before .before .greatest .given .1) ∙ c .before .before .before .before .before .pieces-fit .ensures) in
-    sym (edge-rule (volumeOf (s .args .v .now)) (s .args .e) _ _ _ _ _ (c .before .before .before .before .before .before .before .before .before .before .before .before .before .edge-from .ensures .0) (c .before .before .before .before .before .before .before .before .before .before .before .before .edge-to .ensures .0) (c .before .before .before .before .before .before .before .before .before .edge-first .ensures .0) (c .before .before .before .before .before .before .before .before .edge-pieces .ensures .0) (s .pre .1 .1 .1 .1)
-    ∙ both-yes _ (let t = sym (c .before .before .before .before .before .before .before .before .before .before .before .ends-fit .ensures) ∙ not-false _ (c .before .before .before .before .before .before .before .before .before .before .if1 .left) in let j = s .pre .1 .0 .junctions in (cc))
-    ∙ both-yes _ (s .pre .1 .1 .1 .0 (omega (arith, fit .from-in)) (omega (arith, fit .to-in)))
-    ∙ both-yes _ (let t = sym (c .before .before .before .before .before .before .before .is-placed .ensures) ∙ not-false _ (c .before .before .before .before .before .before .if2 .left) in let q = s .pre .1 .0 .pieces in (cc))
+    sym (edge-rule (volumeOf (s .args .v .now)) (s .args .e) _ _ _ _ _ (c .before .before .before .before .before .before .before .before .before .before .before .before .before .edge-from .ensures .0) (c .before .before .before .before .before .before .before .before .before .before .before .before .edge-to .ensures .0) (c .before .before .before .before .before .before .before .before .before .edge-first .ensures .0) (c .before .before .before .before .before .before .before .before .edge-pieces .ensures .0) (s .pre .1 .1 .1 .1 .1)
+    ∙ both-yes _ (ends-counted _ _ _ _ (s .pre .1 .1 .0 .junctions) (sym (c .before .before .before .before .before .before .before .before .before .before .before .ends-fit .ensures) ∙ not-false _ (c .before .before .before .before .before .before .before .before .before .before .if1 .left)))
+    ∙ both-yes _ (s .pre .1 .1 .1 .1 .0 (omega (arith, fit .from-in)) (omega (arith, fit .to-in)))
+    ∙ both-yes _ (placed-counted _ _ _ _ _ (s .pre .1 .1 .0 .pieces) (sym (c .before .before .before .before .before .before .before .is-placed .ensures) ∙ not-false _ (c .before .before .before .before .before .before .if2 .left)))
     ∙ both-yes _ (spans .0)
     ∙ span-rule (volumeOf (s .args .v .now)) (s .args .e) _ _ (c .before .edge-span .ensures .0) (spans .1)
     ∙ both-no _ (ne-eqb _ _ (c .if3 .taken)))
 
 returns-5 : tie.Need-returns-5
 returns-5 c =
-    let s = c .before .before .before .before .before .before .before .before .before .before .before .before .before .before .before in
+    let s = c .before .before .before .before .before .before .before .before .before .before .before .before .before .before .before .before in
     let fit = ends-fact _ _ _ (sym (c .before .before .before .before .before .before .before .before .before .before .before .ends-fit .ensures) ∙ not-false _ (c .before .before .before .before .before .before .before .before .before .before .if1 .left)) in
-    let j = s .pre .1 .0 .junctions in
+    let j = s .pre .1 .1 .0 .junctions in
     let f = c .before .before .before .before .before .before .before .before .before .before .before .before .before .edge-from .ensures .0 in
     let g = c .before .before .before .before .before .before .before .before .before .before .before .before .edge-to .ensures .0 in
     let spans = fit-span _ _ _ (sym (c .before .before .before .greatest .given .1) ∙ c .before .before .before .before .before .pieces-fit .ensures) in
-    sym (edge-rule (volumeOf (s .args .v .now)) (s .args .e) _ _ _ _ _ (c .before .before .before .before .before .before .before .before .before .before .before .before .before .edge-from .ensures .0) (c .before .before .before .before .before .before .before .before .before .before .before .before .edge-to .ensures .0) (c .before .before .before .before .before .before .before .before .before .edge-first .ensures .0) (c .before .before .before .before .before .before .before .before .edge-pieces .ensures .0) (s .pre .1 .1 .1 .1)
-    ∙ both-yes _ (let t = sym (c .before .before .before .before .before .before .before .before .before .before .before .ends-fit .ensures) ∙ not-false _ (c .before .before .before .before .before .before .before .before .before .before .if1 .left) in let j = s .pre .1 .0 .junctions in (cc))
-    ∙ both-yes _ (s .pre .1 .1 .1 .0 (omega (arith, fit .from-in)) (omega (arith, fit .to-in)))
-    ∙ both-yes _ (let t = sym (c .before .before .before .before .before .before .before .is-placed .ensures) ∙ not-false _ (c .before .before .before .before .before .before .if2 .left) in let q = s .pre .1 .0 .pieces in (cc))
+    sym (edge-rule (volumeOf (s .args .v .now)) (s .args .e) _ _ _ _ _ (c .before .before .before .before .before .before .before .before .before .before .before .before .before .edge-from .ensures .0) (c .before .before .before .before .before .before .before .before .before .before .before .before .edge-to .ensures .0) (c .before .before .before .before .before .before .before .before .before .edge-first .ensures .0) (c .before .before .before .before .before .before .before .before .edge-pieces .ensures .0) (s .pre .1 .1 .1 .1 .1)
+    ∙ both-yes _ (ends-counted _ _ _ _ (s .pre .1 .1 .0 .junctions) (sym (c .before .before .before .before .before .before .before .before .before .before .before .ends-fit .ensures) ∙ not-false _ (c .before .before .before .before .before .before .before .before .before .before .if1 .left)))
+    ∙ both-yes _ (s .pre .1 .1 .1 .1 .0 (omega (arith, fit .from-in)) (omega (arith, fit .to-in)))
+    ∙ both-yes _ (placed-counted _ _ _ _ _ (s .pre .1 .1 .0 .pieces) (sym (c .before .before .before .before .before .before .before .is-placed .ensures) ∙ not-false _ (c .before .before .before .before .before .before .if2 .left)))
     ∙ both-yes _ (spans .0)
     ∙ span-rule (volumeOf (s .args .v .now)) (s .args .e) _ _ (c .before .edge-span .ensures .0) (spans .1)
     ∙ both-yes _ (eq-eqb _ _ (c .if3 .left)))

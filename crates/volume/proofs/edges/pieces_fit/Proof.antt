@@ -11,14 +11,14 @@ use Rattle.volume.proofs.edges.pieces_fit.Statement.{statement}
 use Rattle.volume.proofs.edges.pieces_fit.Tie as tie
 
 abbrev Inv-loop : tie.InvT-loop
-Inv-loop v t roads e first n from to greatest₀ before₀ i₀ greatest before i =
+Inv-loop v t kept roads e first n from to greatest₀ before₀ i₀ greatest before i =
     (i ≤ n)
     × Passed (pieceRule (volumeOf v) e) (volumeOf v .edge-pieces e) i
     × (greatest ≡ greatestSpan (volumeOf v) (volumeOf v .edge-first e) i)
     × (0 < i → before ≡ start (volumeOf v) e (i - 1))
 
 abbrev μ-loop : tie.MeasureT-loop
-μ-loop v t roads e first n from to greatest₀ before₀ i₀ greatest before i = n - i
+μ-loop v t kept roads e first n from to greatest₀ before₀ i₀ greatest before i = n - i
 
 edge-from-requires : tie.Need-edge-from-requires Inv-loop μ-loop
 edge-from-requires c κs = search needs
@@ -42,10 +42,10 @@ start-fits-requires c κs = search needs
 returns : tie.Need-returns Inv-loop μ-loop
 returns c =
     let l = c .before .before .before .before in
-    let s = l .before .before .before .before in
+    let s = l .before .before .before .before .before in
     let a = s .args in
     let vol = volumeOf (a .v .now) in
-    let q = s .pre .1 .1 in
+    let q = s .pre .1 .1 .1 in
     let at = c .before .before .piece-start .ensures .0 ∙ ap (λ (f : ℕ). vol .piece-start (f + l .loop .i)) (q .0) in
     let bad = late-start vol (a .e) (l .loop .i) _ _ (period-is (a .v .now)) (l .loop .inv .3) at (sym (c .before .start-fits .ensures) ∙ not-true _ (c .if1 .taken)) in
     sym (pieces-fault vol (a .e) (all-stop (pieceRule vol (a .e)) _ (l .loop .i) (omega (arith, q .1, c .before .before .before .loop-test .taken)) bad (l .loop .inv .1)))
@@ -54,7 +54,10 @@ add-piece-fit : tie.Need-add-piece-fit Inv-loop μ-loop
 add-piece-fit c = search needs
 
 piece-fit-requires : tie.Need-piece-fit-requires Inv-loop μ-loop
-piece-fit-requires c κs = search needs
+piece-fit-requires c κs =
+    let l = c .before .before .before .before in
+    let s = l .before .before .before .before .before in
+    (s .pre .0, (s .pre .1 .0, ((s .pre .1 .1 .0 .0, omega (arith, s .pre .1 .1 .0 .2, c .before .before .before .loop-test .taken)), (l .before .before .edge-from .ensures .0, l .before .edge-to .ensures .0))))
 
 enum-known-span : tie.Need-enum-known-span Inv-loop μ-loop
 enum-known-span c = search needs
@@ -65,10 +68,10 @@ enum-told c = search needs
 returns-2 : tie.Need-returns-2 Inv-loop μ-loop
 returns-2 c =
     let l = c .before .before .before .before .before .before .before in
-    let s = l .before .before .before .before in
+    let s = l .before .before .before .before .before in
     let a = s .args in
     let vol = volumeOf (a .v .now) in
-    let q = s .pre .1 .1 in
+    let q = s .pre .1 .1 .1 in
     let started = c .before .before .before .before in
     let at = started .before .piece-start .ensures .0 ∙ ap (λ (f : ℕ). vol .piece-start (f + l .loop .i)) (q .0) in
     let rule = after-start vol (a .e) (l .loop .i) _ _ (period-is (a .v .now)) (l .loop .inv .3) at (sym (started .start-fits .ensures) ∙ not-false _ (c .before .before .before .if1 .left)) in
@@ -88,10 +91,10 @@ loop-less c = search needs
 loop-again : tie.Need-loop-again Inv-loop μ-loop
 loop-again c =
     let l = c .before .before .before .before .before .before .before .before .before in
-    let s = l .before .before .before .before in
+    let s = l .before .before .before .before .before in
     let a = s .args in
     let vol = volumeOf (a .v .now) in
-    let q = s .pre .1 .1 in
+    let q = s .pre .1 .1 .1 in
     let fit = c .before .before .before .before .piece-fit in
     let started = c .before .before .before .before .before .before in
     let at = started .before .piece-start .ensures .0 ∙ ap (λ (f : ℕ). vol .piece-start (f + l .loop .i)) (q .0) in
@@ -108,10 +111,10 @@ loop-again c =
 returns-3 : tie.Need-returns-3 Inv-loop μ-loop
 returns-3 c =
     let l = c .before in
-    let s = l .before .before .before .before in
+    let s = l .before .before .before .before .before in
     let a = s .args in
     let vol = volumeOf (a .v .now) in
-    let q = s .pre .1 .1 in
+    let q = s .pre .1 .1 .1 in
     let e : l .loop .i ≡ vol .edge-pieces (a .e) = omega (arith, q .1, c .loop-test .left, l .loop .inv .0) in
     sym (pieces-fine vol (a .e) _ (all-end (pieceRule vol (a .e)) _ (l .loop .i) (omega arith) (omega arith) (l .loop .inv .1))
     (l .loop .inv .2 ∙ ap (greatestSpan vol (vol .edge-first (a .e))) e))
