@@ -15,6 +15,7 @@ ghost use mathlib.Core.Path.{_≡_};
 ghost use Prim.Native.Nat.{_+_, _≤_, _<_};
 ghost use Rattle.volume.specs.Format.{volumeOf, Laid};
 ghost use Rattle.volume.specs.Sound.{Sound};
+ghost use Rattle.travel.specs.Digest.{Digest};
 ghost use Rattle.full.specs.Cover.{named, arrivalBy, notAfter, edgeWith, firstLate, coverOf};
 ghost use Rattle.full.specs.Turns.{Names, Ready};
 ghost use Rattle.full.specs.Parts.{pieceEnd};
@@ -53,9 +54,10 @@ fn find_edge(
 }
 
 // How long the road `left`, or the edges `left` and `right` in turn, take for who enters at x.
-fn in_turn(v: &[u8], t: Tables, left: usize, right: usize, x: u64) -> u64
+fn in_turn(v: &[u8], t: Tables, digest: &[u32], left: usize, right: usize, x: u64) -> u64
     requires { ⌜ Laid (now v) t ⌝ }
     requires { ⌜ Sound (volumeOf (now v)) ⌝ }
+    requires { ⌜ Digest (volumeOf (now v)) (now digest) ⌝ }
     requires { ⌜ Names (volumeOf (now v)) left right ⌝ }
     requires { ⌜ x < volumeOf (now v) .period ⌝ }
     ensures { λ r. ⌜ x + r ≡ arrivalBy (volumeOf (now (v .entry))) (named left right) x ⌝ }
@@ -63,8 +65,8 @@ fn in_turn(v: &[u8], t: Tables, left: usize, right: usize, x: u64) -> u64
     if right == EMPTY {
         return road_duration(v, t, left, x);
     }
-    let a = edge_duration(v, t, left, x);
-    let b = edge_duration(v, t, right, x + a);
+    let a = edge_duration(v, t, digest, left, x);
+    let b = edge_duration(v, t, digest, right, x + a);
     a + b
 }
 
@@ -73,6 +75,7 @@ fn in_turn(v: &[u8], t: Tables, left: usize, right: usize, x: u64) -> u64
 fn first_slower(
     v: &[u8],
     t: Tables,
+    digest: &[u32],
     a: usize,
     b: usize,
     left: usize,
@@ -82,6 +85,7 @@ fn first_slower(
 ) -> u64
     requires { ⌜ Laid (now v) t ⌝ }
     requires { ⌜ Sound (volumeOf (now v)) ⌝ }
+    requires { ⌜ Digest (volumeOf (now v)) (now digest) ⌝ }
     requires { ⌜ Names (volumeOf (now v)) a b ⌝ }
     requires { ⌜ Names (volumeOf (now v)) left right ⌝ }
     requires { ⌜ (from ≤ end) × (end ≤ volumeOf (now v) .period) ⌝ }
@@ -94,8 +98,8 @@ fn first_slower(
     }
     let mut x = from;
     while x < end {
-        let rival = in_turn(v, t, left, right, x);
-        let own = in_turn(v, t, a, b, x);
+        let rival = in_turn(v, t, digest, left, right, x);
+        let own = in_turn(v, t, digest, a, b, x);
         if rival < own {
             return x;
         }
@@ -117,9 +121,10 @@ fn piece_end(v: &[u8], t: Tables, first: usize, n: usize, i: usize) -> u64
 }
 
 // The first second of the period at which edge e arrives later than `left` and `right`, or the period. It goes from piece to piece.
-fn first_late(v: &[u8], t: Tables, e: usize, left: usize, right: usize) -> u64
+fn first_late(v: &[u8], t: Tables, digest: &[u32], e: usize, left: usize, right: usize) -> u64
     requires { ⌜ Laid (now v) t ⌝ }
     requires { ⌜ Sound (volumeOf (now v)) ⌝ }
+    requires { ⌜ Digest (volumeOf (now v)) (now digest) ⌝ }
     requires { ⌜ e < volumeOf (now v) .edges ⌝ }
     requires { ⌜ Names (volumeOf (now v)) left right ⌝ }
     ensures { λ r. ⌜ r ≡ firstLate (volumeOf (now (v .entry))) e (named left right) ⌝ }
@@ -132,7 +137,7 @@ fn first_late(v: &[u8], t: Tables, e: usize, left: usize, right: usize) -> u64
         let a = piece_left(v, t, first + i);
         let b = piece_right(v, t, first + i);
         let end = piece_end(v, t, first, n, i);
-        let y = first_slower(v, t, a, b, left, right, x, end);
+        let y = first_slower(v, t, digest, a, b, left, right, x, end);
         if y < end {
             return y;
         }
@@ -148,6 +153,7 @@ pub fn cover_of(
     t: Tables,
     first: &[u16],
     next: &[u16],
+    digest: &[u32],
     edges: usize,
     u: usize,
     w: usize,
@@ -155,6 +161,7 @@ pub fn cover_of(
     right: usize,
 ) -> Cover
     requires { ⌜ Ready (now v) t (now first) (now next) edges ⌝ }
+    requires { ⌜ Digest (volumeOf (now v)) (now digest) ⌝ }
     requires { ⌜ u < volumeOf (now v) .junctions ⌝ }
     requires { ⌜ Names (volumeOf (now v)) left right ⌝ }
     ensures { λ r. ⌜ r ≡ coverOf (volumeOf (now (v .entry))) u w (named left right) ⌝ }
@@ -163,7 +170,7 @@ pub fn cover_of(
     if e == edges {
         return Cover::Missing;
     }
-    let x = first_late(v, t, e, left, right);
+    let x = first_late(v, t, digest, e, left, right);
     if x == PERIOD {
         return Cover::Fine;
     }

@@ -2,6 +2,7 @@
 // Answers to document 01, "Full".
 use crate::cover::Cover;
 use crate::cover::cover_of;
+use travel::digest::make_digest;
 use volume::Opening;
 use volume::index::index_edges;
 use volume::open;
@@ -17,6 +18,7 @@ ghost use mathlib.Core.Path.{_≡_};
 ghost use Prim.Native.Nat.{_<_};
 ghost use Rattle.volume.specs.Format.{volumeOf, Laid, Counted, Few};
 ghost use Rattle.volume.specs.Sound.{Sound};
+ghost use Rattle.travel.specs.Digest.{Digest};
 ghost use Rattle.full.specs.Fault.{ofRoad, ofPair, roadFault, pairFault, rightsFault, leftsFault, roadsFault, faultOf, verdictOf};
 ghost use Rattle.full.specs.Turns.{Ready};
 
@@ -56,14 +58,23 @@ fn of_pair(l: usize, r: usize, c: Cover) -> Verdict
 }
 
 // The fault of road k.
-fn road_fault(v: &[u8], t: Tables, first: &[u16], next: &[u16], edges: usize, k: usize) -> Verdict
+fn road_fault(
+    v: &[u8],
+    t: Tables,
+    first: &[u16],
+    next: &[u16],
+    digest: &[u32],
+    edges: usize,
+    k: usize,
+) -> Verdict
     requires { ⌜ Ready (now v) t (now first) (now next) edges ⌝ }
+    requires { ⌜ Digest (volumeOf (now v)) (now digest) ⌝ }
     requires { ⌜ k < volumeOf (now v) .roads ⌝ }
     ensures { λ r. ⌜ r ≡ roadFault (volumeOf (now (v .entry))) k ⌝ }
 {
     let u = road_from(v, t, k);
     let w = road_to(v, t, k);
-    let c = cover_of(v, t, first, next, edges, u, w, k, EMPTY);
+    let c = cover_of(v, t, first, next, digest, edges, u, w, k, EMPTY);
     of_road(k, c)
 }
 
@@ -73,6 +84,7 @@ fn pair_fault(
     t: Tables,
     first: &[u16],
     next: &[u16],
+    digest: &[u32],
     edges: usize,
     l: usize,
     u: usize,
@@ -80,6 +92,7 @@ fn pair_fault(
     r: usize,
 ) -> Verdict
     requires { ⌜ Ready (now v) t (now first) (now next) edges ⌝ }
+    requires { ⌜ Digest (volumeOf (now v)) (now digest) ⌝ }
     requires { ⌜ (l < edges) × (r < edges) ⌝ }
     requires { ⌜ (u ≡ volumeOf (now v) .edge-from l) × (m ≡ volumeOf (now v) .edge-to l) ⌝ }
     requires { ⌜ (m ≡ volumeOf (now v) .edge-from r) × (m < u) ⌝ }
@@ -92,13 +105,22 @@ fn pair_fault(
     if w == u {
         return Verdict::Full;
     }
-    let c = cover_of(v, t, first, next, edges, u, w, l, r);
+    let c = cover_of(v, t, first, next, digest, edges, u, w, l, r);
     of_pair(l, r, c)
 }
 
 // The first fault of edge l and an edge after it in turn.
-fn rights_fault(v: &[u8], t: Tables, first: &[u16], next: &[u16], edges: usize, l: usize) -> Verdict
+fn rights_fault(
+    v: &[u8],
+    t: Tables,
+    first: &[u16],
+    next: &[u16],
+    digest: &[u32],
+    edges: usize,
+    l: usize,
+) -> Verdict
     requires { ⌜ Ready (now v) t (now first) (now next) edges ⌝ }
+    requires { ⌜ Digest (volumeOf (now v)) (now digest) ⌝ }
     requires { ⌜ l < edges ⌝ }
     ensures { λ a. ⌜ a ≡ rightsFault (volumeOf (now (v .entry))) l ⌝ }
 {
@@ -109,7 +131,7 @@ fn rights_fault(v: &[u8], t: Tables, first: &[u16], next: &[u16], edges: usize, 
     }
     let mut r = first[m] as usize;
     while r < edges {
-        let found = pair_fault(v, t, first, next, edges, l, u, m, r);
+        let found = pair_fault(v, t, first, next, digest, edges, l, u, m, r);
         let Verdict::Full = found else {
             return found;
         };
@@ -119,13 +141,21 @@ fn rights_fault(v: &[u8], t: Tables, first: &[u16], next: &[u16], edges: usize, 
 }
 
 // The first fault of two edges in turn, by the left one's number and then by the right one's.
-fn lefts_fault(v: &[u8], t: Tables, first: &[u16], next: &[u16], edges: usize) -> Verdict
+fn lefts_fault(
+    v: &[u8],
+    t: Tables,
+    first: &[u16],
+    next: &[u16],
+    digest: &[u32],
+    edges: usize,
+) -> Verdict
     requires { ⌜ Ready (now v) t (now first) (now next) edges ⌝ }
+    requires { ⌜ Digest (volumeOf (now v)) (now digest) ⌝ }
     ensures { λ a. ⌜ a ≡ leftsFault (volumeOf (now (v .entry))) ⌝ }
 {
     let mut l: usize = 0;
     while l < edges {
-        let found = rights_fault(v, t, first, next, edges, l);
+        let found = rights_fault(v, t, first, next, digest, edges, l);
         let Verdict::Full = found else {
             return found;
         };
@@ -140,16 +170,18 @@ fn roads_fault(
     t: Tables,
     first: &[u16],
     next: &[u16],
+    digest: &[u32],
     edges: usize,
     roads: usize,
 ) -> Verdict
     requires { ⌜ Ready (now v) t (now first) (now next) edges ⌝ }
+    requires { ⌜ Digest (volumeOf (now v)) (now digest) ⌝ }
     requires { ⌜ roads ≡ volumeOf (now v) .roads ⌝ }
     ensures { λ a. ⌜ a ≡ roadsFault (volumeOf (now (v .entry))) ⌝ }
 {
     let mut k: usize = 0;
     while k < roads {
-        let found = road_fault(v, t, first, next, edges, k);
+        let found = road_fault(v, t, first, next, digest, edges, k);
         let Verdict::Full = found else {
             return found;
         };
@@ -168,12 +200,14 @@ fn fault_of(v: &[u8], t: Tables, c: Counts) -> Verdict
 {
     let mut first = [0u16; 1024];
     let mut next = [0u16; 16384];
+    let mut digest = [0u32; 20481];
     index_edges(v, t, c, &mut first, &mut next);
-    let found = roads_fault(v, t, &first, &next, c.edges, c.roads);
+    make_digest(v, t, c, &mut digest);
+    let found = roads_fault(v, t, &first, &next, &digest, c.edges, c.roads);
     let Verdict::Full = found else {
         return found;
     };
-    lefts_fault(v, t, &first, &next, c.edges)
+    lefts_fault(v, t, &first, &next, &digest, c.edges)
 }
 
 // Is the volume full? If not, the first fault; if it does not open, the refusal. The answer is the one over every second.

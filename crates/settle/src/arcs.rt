@@ -13,6 +13,7 @@ ghost use lib.ListN.{length};
 ghost use Rattle.theory.specs.Settling.{offer, relax, settle};
 ghost use Rattle.volume.specs.Format.{volumeOf, Counted};
 ghost use Rattle.volume.specs.Index.{Linked};
+ghost use Rattle.travel.specs.Digest.{Digest};
 ghost use Rattle.settle.specs.Chain.{WaitsAt, Chained, Precedes, Rechained};
 ghost use Rattle.settle.specs.Marked.{MarksBelow};
 ghost use Rattle.settle.specs.Arcs.{Ready, Does, placeOf, webOf, leadOf, LeadsBelow};
@@ -61,6 +62,7 @@ fn lead_of(v: &[u8], t: Tables, n: usize, marks: &[u8], s: usize, e: usize) -> L
 fn offer_edge(
     v: &[u8],
     t: Tables,
+    digest: &[u32],
     n: usize,
     marks: &[u8],
     s: usize,
@@ -70,6 +72,7 @@ fn offer_edge(
     work: &mut [u64],
 ) -> usize
     requires { ⌜ Ready (now v) t n (now marks) s ⌝ }
+    requires { ⌜ Digest (volumeOf (now v)) (now digest) ⌝ }
     requires { ⌜ (e < volumeOf (now v) .edges) × (volumeOf (now v) .edge-from e ≡ placeOf n s) ⌝ }
     requires { ⌜ (arrival < 2 ^ 62) × (8 * n ≤ length (now work)) ⌝ }
     ensures { λ r. ⌜ Does (volumeOf (now (v .entry))) (now (marks .entry)) (now (work .entry)) (now (work .exit)) (λ W. offer W s arrival (suc e)) ⌝ }
@@ -80,7 +83,7 @@ fn offer_edge(
     };
     let at = STATE * to;
     if work[at] < SETTLED {
-        let later = arrival + edge_duration(v, t, e, arrival);
+        let later = arrival + edge_duration(v, t, digest, e, arrival);
         return offer_to(work, head, to, later, e as u64 + 1);
     }
     head
@@ -114,6 +117,7 @@ fn offer_arcs(
     c: Counts,
     first: &[u16],
     next: &[u16],
+    digest: &[u32],
     marks: &[u8],
     s: usize,
     arrival: u64,
@@ -121,6 +125,7 @@ fn offer_arcs(
     work: &mut [u64],
 ) -> usize
     requires { ⌜ Ready (now v) t (c .junctions) (now marks) s ⌝ }
+    requires { ⌜ Digest (volumeOf (now v)) (now digest) ⌝ }
     requires { ⌜ Counted (volumeOf (now v)) c ⌝ }
     requires { ⌜ Linked (volumeOf (now v)) (now first) (now next) ⌝ }
     requires { ⌜ (arrival < 2 ^ 62) × (8 * c .junctions ≤ length (now work)) ⌝ }
@@ -133,7 +138,7 @@ fn offer_arcs(
     let mut front = offer_turn(n, marks, s, arrival, head, work);
     let mut e = first[u] as usize;
     while e < edges {
-        front = offer_edge(v, t, n, marks, s, e, arrival, front, work);
+        front = offer_edge(v, t, digest, n, marks, s, e, arrival, front, work);
         e = next[e] as usize;
     }
     front
@@ -146,6 +151,7 @@ pub fn settle_state(
     c: Counts,
     first: &[u16],
     next: &[u16],
+    digest: &[u32],
     marks: &[u8],
     s: usize,
     arrival: u64,
@@ -154,6 +160,7 @@ pub fn settle_state(
     work: &mut [u64],
 ) -> usize
     requires { ⌜ Ready (now v) t (c .junctions) (now marks) s ⌝ }
+    requires { ⌜ Digest (volumeOf (now v)) (now digest) ⌝ }
     requires { ⌜ Counted (volumeOf (now v)) c ⌝ }
     requires { ⌜ Linked (volumeOf (now v)) (now first) (now next) ⌝ }
     requires { ⌜ (arrival < 2 ^ 62) × (8 * c .junctions ≤ length (now work)) ⌝ }
@@ -165,5 +172,5 @@ pub fn settle_state(
 {
     let n = c.junctions;
     let front = take_out(work, n + n, head, s, before);
-    offer_arcs(v, t, c, first, next, marks, s, arrival, front, work)
+    offer_arcs(v, t, c, first, next, digest, marks, s, arrival, front, work)
 }

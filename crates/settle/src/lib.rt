@@ -8,6 +8,7 @@ use crate::marks::mark;
 use crate::seen::View;
 use crate::seen::see;
 use crate::seen::upper;
+use travel::digest::make_digest;
 use volume::index::index_edges;
 use volume::tables::Counts;
 use volume::tables::Tables;
@@ -16,6 +17,7 @@ ghost use Prim.Native.Nat.{_+_, _*_, _^_, _≤_, _<_};
 ghost use lib.ListN.{length};
 ghost use Rattle.volume.specs.Format.{volumeOf, Counted, Few, Laid};
 ghost use Rattle.volume.specs.Index.{Linked};
+ghost use Rattle.travel.specs.Digest.{Digest};
 ghost use Rattle.volume.specs.Sound.{Sound};
 ghost use Rattle.settle.specs.Marked.{MarksBelow};
 ghost use Rattle.settle.specs.Outcome.{Ran};
@@ -59,6 +61,7 @@ fn units(
     c: Counts,
     first: &[u16],
     next: &[u16],
+    digest: &[u32],
     marks: &[u8],
     from: usize,
     to: usize,
@@ -67,6 +70,7 @@ fn units(
     work: &mut [u64],
 ) -> Outcome
     requires { ⌜ (Laid (now v) t) × Counted (volumeOf (now v)) c × Sound (volumeOf (now v)) ⌝ }
+    requires { ⌜ Digest (volumeOf (now v)) (now digest) ⌝ }
     requires { ⌜ Linked (volumeOf (now v)) (now first) (now next) ⌝ }
     requires { ⌜ (c .junctions ≤ length (now marks)) × MarksBelow (volumeOf (now v)) to (volumeOf (now v) .junctions) (now marks) ⌝ }
     requires { ⌜ Question (volumeOf (now v)) from to departure budget (now work) ⌝ }
@@ -87,7 +91,20 @@ fn units(
                 if used == budget {
                     return Outcome::Open(arrival, upper(work, home), used);
                 }
-                head = settle_state(v, t, c, first, next, marks, s, arrival, before, head, work);
+                head = settle_state(
+                    v,
+                    t,
+                    c,
+                    first,
+                    next,
+                    digest,
+                    marks,
+                    s,
+                    arrival,
+                    before,
+                    head,
+                    work,
+                );
                 used += 1;
             }
         }
@@ -100,6 +117,7 @@ fn run_indexed(
     t: Tables,
     c: Counts,
     next: &mut [u16],
+    digest: &mut [u32],
     from: usize,
     to: usize,
     departure: u64,
@@ -110,13 +128,14 @@ fn run_indexed(
     requires { ⌜ Counted (volumeOf (now v)) c ⌝ }
     requires { ⌜ Few c ⌝ }
     requires { ⌜ Sound (volumeOf (now v)) ⌝ }
-    requires { ⌜ c .edges ≤ length (now next) ⌝ }
+    requires { ⌜ (c .edges ≤ length (now next)) × (4096 + c .edges < length (now digest)) ⌝ }
     requires { ⌜ Question (volumeOf (now v)) from to departure budget (now work) ⌝ }
     ensures { λ r. ⌜ Ran (volumeOf (now (v .entry))) from to departure budget (now (work .entry)) (now (work .exit)) r ⌝ }
 {
     let mut first = [0u16; 1024];
     let mut marks = [0u8; 1024];
     index_edges(v, t, c, &mut first, next);
+    make_digest(v, t, c, digest);
     mark(v, t, c, &first, next, to, &mut marks);
     units(
         v,
@@ -124,6 +143,7 @@ fn run_indexed(
         c,
         &first,
         next,
+        digest,
         &marks,
         from,
         to,
@@ -154,8 +174,32 @@ pub fn run(
 {
     if c.edges <= 1024 {
         let mut next = [0u16; 1024];
-        return run_indexed(v, t, c, &mut next, from, to, departure, budget, work);
+        let mut digest = [0u32; 5121];
+        return run_indexed(
+            v,
+            t,
+            c,
+            &mut next,
+            &mut digest,
+            from,
+            to,
+            departure,
+            budget,
+            work,
+        );
     }
     let mut next = [0u16; 16384];
-    run_indexed(v, t, c, &mut next, from, to, departure, budget, work)
+    let mut digest = [0u32; 20481];
+    run_indexed(
+        v,
+        t,
+        c,
+        &mut next,
+        &mut digest,
+        from,
+        to,
+        departure,
+        budget,
+        work,
+    )
 }

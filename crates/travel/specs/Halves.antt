@@ -29,10 +29,10 @@ pub record Halves (vol : Volume) (e x l r : ℕ) : Type 0 where
   pub left-below : l < e
   pub right-below : r < e
   pub left : Enters vol l x
-  -- the right half is entered at the second at which the left one arrives
-  pub right : (a : ℕ) → x + a ≡ arrival vol l x → Enters vol r (x + a)
+  -- the right half may be entered at every second until the left one arrives
+  pub right : (y : ℕ) → y ≤ arrival vol l x → Enters vol r y
   -- and the sum of their durations is a number of the code
-  pub sum : (a b : ℕ) → x + a ≡ arrival vol l x → x + a + b ≡ arrival vol r (x + a) → a + b < 2 ^ 63
+  pub sum : (a b y : ℕ) → x + a ≡ arrival vol l x → y + b ≡ arrival vol r y → a + b < 2 ^ 63
 
 module _ (vol : Volume) (S : Sound vol) where
   -- an edge is its piece in force
@@ -121,16 +121,16 @@ module _ {vol : Volume} {e x p l r : ℕ} (H : InHand vol e x p l r) where
           left-below = ll;
           right-below = rl;
           left = record { there = omega (arith, H .enters .there); fits = omega (arith, H .enters .fits) };
-          right = λ a ha. record {
+          right = λ y hy. record {
             there = omega (arith, H .enters .there);
             fits = omega (arith, H .enters .fits, edge-short vol (H .sound) l x (omega (arith, H .enters .there)));
           };
-          sum = λ a b ha hb.
+          sum = λ a b y ha hb.
               omega (
                 arith,
                 H .enters .fits,
                 edge-short vol (H .sound) l x (omega (arith, H .enters .there)),
-                edge-short vol (H .sound) r (x + a) (omega (arith, H .enters .there)),
+                edge-short vol (H .sound) r y (omega (arith, H .enters .there)),
               );
         }
 

@@ -9,6 +9,8 @@ pub mod Wording
 pub mod Network
 pub mod PointsFrom
 pub mod Row
+pub mod Digest
+pub mod PieceWords
 pub mod Halves
 pub mod Unfolds
 pub mod Written

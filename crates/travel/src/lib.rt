@@ -1,13 +1,22 @@
 // Travel times: how long a road and an edge take at a departure, and the roads that an edge unfolds to. Answers to document 01,
 // "Travel time", and to its sentences on the unfolded path. What a volume holds is the crate `volume`'s.
+use crate::digest::make_digest;
 use crate::edge::edge_duration;
 use crate::road::road_duration;
 use volume::Opening;
 use volume::open;
+use volume::tables::Counts;
+use volume::tables::Tables;
 use volume::tables::tables_of;
 ghost use mathlib.Core.Path.{_≡_};
+ghost use Prim.Native.Nat.{_+_, _<_};
+ghost use lib.ListN.{length};
+ghost use Rattle.volume.specs.Format.{volumeOf, Counted, Laid};
+ghost use Rattle.volume.specs.Sound.{Sound};
+ghost use Rattle.travel.specs.Network.{Enters, arrival};
 ghost use Rattle.travel.specs.Times.{roadTimeOf, edgeTimeOf};
 
+pub mod digest;
 pub mod edge;
 pub mod last;
 pub mod path;
@@ -35,6 +44,35 @@ pub fn road_time(v: &[u8], road: u32, departure: u32) -> Timing
     }
 }
 
+// The duration of edge e for who enters it at x, by a digest in a list that has room for it.
+fn edge_digested(v: &[u8], t: Tables, c: Counts, e: usize, x: u64, digest: &mut [u32]) -> u64
+    requires { ⌜ Laid (now v) t ⌝ }
+    requires { ⌜ Sound (volumeOf (now v)) ⌝ }
+    requires { ⌜ Counted (volumeOf (now v)) c ⌝ }
+    requires { ⌜ Enters (volumeOf (now v)) e x ⌝ }
+    requires { ⌜ 4096 + c .edges < length (now digest) ⌝ }
+    ensures { λ r. ⌜ x + r ≡ arrival (volumeOf (now (v .entry))) e x ⌝ }
+{
+    make_digest(v, t, c, digest);
+    edge_duration(v, t, digest, e, x)
+}
+
+// The same. Few edges get a short list, as in opening.
+fn edge_lasts(v: &[u8], t: Tables, c: Counts, e: usize, x: u64) -> u64
+    requires { ⌜ Laid (now v) t ⌝ }
+    requires { ⌜ Sound (volumeOf (now v)) ⌝ }
+    requires { ⌜ Counted (volumeOf (now v)) c ⌝ }
+    requires { ⌜ Enters (volumeOf (now v)) e x ⌝ }
+    ensures { λ r. ⌜ x + r ≡ arrival (volumeOf (now (v .entry))) e x ⌝ }
+{
+    if c.edges <= 1024 {
+        let mut digest = [0u32; 5121];
+        return edge_digested(v, t, c, e, x, &mut digest);
+    }
+    let mut digest = [0u32; 20481];
+    edge_digested(v, t, c, e, x, &mut digest)
+}
+
 // How long an edge takes, entered at any departure.
 pub fn edge_time(v: &[u8], edge: u32, departure: u32) -> Timing
     ensures { λ r. ⌜ r ≡ edgeTimeOf (now (v .entry)) edge departure ⌝ }
@@ -47,7 +85,7 @@ pub fn edge_time(v: &[u8], edge: u32, departure: u32) -> Timing
             if c.edges <= e {
                 return Timing::Refused(7, 0);
             }
-            Timing::Lasts(edge_duration(v, tables_of(c), e, departure as u64))
+            Timing::Lasts(edge_lasts(v, tables_of(c), c, e, departure as u64))
         }
     }
 }

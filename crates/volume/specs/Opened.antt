@@ -180,6 +180,7 @@ module _ (vol : Volume) (e : ℕ) where
           to-in = a .to-in;
           one-edge = new-fact (t .new);
           some = b .some;
+          laid = b .begins-at;
           inside = b .inside;
           begin = piece-starts 0 (b .some) .1 refl;
           rise = λ i h. let back : i + 1 - 1 ≡ i = omega arith in rw back at (piece-starts (i + 1) h .2 (omega arith));

@@ -4,7 +4,7 @@ use Prim.Native.Nat.{ℕ, _+_, _-_, _≤_, _<_}
 use mathlib.Core.Path.{_≡_}
 use mathlib.Core.Logic.{_≢_}
 use Rattle.volume.specs.Format.{Volume}
-use Rattle.volume.specs.Rules.{longest, mostSpan, empty, second, duration, start}
+use Rattle.volume.specs.Rules.{longest, mostSpan, empty, begins, second, duration, start}
 
 -- n points with seconds s and durations d, in a period
 pub record Points (period n : ℕ) (s d : ℕ → ℕ) : Type 0 where
@@ -48,6 +48,7 @@ pub record SoundEdge (vol : Volume) (e : ℕ) : Type 0 where
   pub to-in : vol .edge-to e < vol .junctions
   pub one-edge : (d : ℕ) → d < e → vol .edge-from d ≡ vol .edge-from e → vol .edge-to d ≢ vol .edge-to e
   pub some : 0 < vol .edge-pieces e
+  pub laid : vol .edge-first e ≡ begins (vol .edge-first) (vol .edge-pieces) e
   pub inside : vol .edge-first e + vol .edge-pieces e ≤ vol .pieces
   pub begin : start vol e 0 ≡ 0
   pub rise : (i : ℕ) → i + 1 < vol .edge-pieces e → start vol e i < start vol e (i + 1)

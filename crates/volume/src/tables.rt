@@ -16,6 +16,11 @@ const EDGE_WORDS: usize = 5;
 
 pub const PIECE_WORDS: usize = 3;
 
+// Where a piece's left and right stand among its words.
+pub const LEFT: usize = 1;
+
+pub const RIGHT: usize = 2;
+
 // After how many seconds a volume repeats.
 pub const PERIOD: u64 = 86400;
 
@@ -182,7 +187,7 @@ pub fn piece_left(v: &[u8], t: Tables, p: usize) -> usize
     ensures { λ r. ⌜ (r ≡ volumeOf (now (v .entry)) .piece-left p) × (r < 2 ^ 32) ⌝ }
 {
     let base = t.pieces;
-    content(v, base + PIECE_WORDS * p + 1) as usize
+    content(v, base + PIECE_WORDS * p + LEFT) as usize
 }
 
 // The right of piece p: an edge, or EMPTY.
@@ -192,5 +197,5 @@ pub fn piece_right(v: &[u8], t: Tables, p: usize) -> usize
     ensures { λ r. ⌜ (r ≡ volumeOf (now (v .entry)) .piece-right p) × (r < 2 ^ 32) ⌝ }
 {
     let base = t.pieces;
-    content(v, base + PIECE_WORDS * p + 2) as usize
+    content(v, base + PIECE_WORDS * p + RIGHT) as usize
 }

@@ -39,11 +39,11 @@ tables-of-requires c κs =
     let s = c .before .before .before .before .before .before .before in
     opened (s .args .v .now) _ (sym (c .before .before .before .before .before .«open» .ensures) ∙ c .before .before .before .opening2 .given .1) .few
 
-edge-duration-requires : tie.Need-edge-duration-requires
-edge-duration-requires c κs =
+edge-lasts-requires : tie.Need-edge-lasts-requires
+edge-lasts-requires c κs =
     let s = c .before .before .before .before .before .before .before .before in
     let o = opened (s .args .v .now) _ (sym (c .before .before .before .before .before .before .«open» .ensures) ∙ c .before .before .before .before .opening2 .given .1) in
-    (subst (λ (t : Tables). Laid (s .args .v .now) t) (sym (c .tables-of .ensures)) (o .laid), (o .sound, record { there = omega (arith, o .counted .edges); fits = omega (arith, o .sound .edge (s .args .edge) (omega (arith, o .counted .edges)) .span) }))
+    (subst (λ (t : Tables). Laid (s .args .v .now) t) (sym (c .tables-of .ensures)) (o .laid), (o .sound, (o .counted, record { there = omega (arith, o .counted .edges); fits = omega (arith, o .sound .edge (s .args .edge) (omega (arith, o .counted .edges)) .span) })))
 
 returns-2 : tie.Need-returns-2
 unfolding edgeTimeOf
@@ -60,7 +60,7 @@ returns-3 c =
     let vol = volumeOf (a .v .now) in
     let is = sym (c .before .before .before .before .before .opening2 .given .1) ∙ c .before .before .before .before .before .before .before .«open» .ensures in
     let o = opened (a .v .now) _ (sym is) in
-    ap Lasts (let d = c .edge-duration .ensures in omega arith)
+    ap Lasts (let d = c .edge-lasts .ensures in omega arith)
     ∙ sym (choose-yes _ _ (lt-ltb (a .edge) (vol .edges) (omega (arith, o .counted .edges))))
     ∙ ap (λ (p : Opening). opening p (timed (vol .edges) (a .edge) (arrival vol (a .edge) (a .departure) - a .departure))) is
 
@@ -73,6 +73,6 @@ edge-time-spec =
     enum-known-opening-2
     returns
     tables-of-requires
-    edge-duration-requires
+    edge-lasts-requires
     returns-2
     returns-3)

@@ -1,5 +1,6 @@
 use Prim.Native.Nat.{ℕ, _<_}
 use native.Mathlib.Omega.{arith}
+use native.Mathlib.Nat.{le-refl}
 use Rattle.volume.specs.Format.{volumeOf}
 use Rattle.travel.specs.Halves.{force-has, force-in, road-there, halves}
 use Rattle.travel.specs.Unfolds.{InForce, road-unfolds, halves-unfold, few-roads}
@@ -95,7 +96,7 @@ count-roads-add-count-roads t c =
     let d = c .before .before in
     let s = d .before .before .before .before .before in
     let H = halves (in-force t (d .before) .hand) (d .if1 .left) in
-    omega (arith, H .right _ (c .before .count-roads .ensures .duration) .fits)
+    omega (arith, c .before .count-roads .ensures .duration, H .right _ (le-refl _) .fits)
 
 count-roads-count-roads-requires-2 : (t : ℕ) → count-roads-lts.Need-count-roads-requires-2 (calls t) (count-roads-at t) count-roads.Post
 count-roads-count-roads-requires-2 t c κs =
@@ -103,7 +104,7 @@ count-roads-count-roads-requires-2 t c κs =
     let s = d .before .before .before .before .before in
     let H = halves (in-force t (d .before) .hand) (d .if1 .left) in
     let m : d .before .piece-right .result < t = omega (arith, s .pre .0, H .right-below) in
-    (m, (s .pre .1 .0, (s .pre .1 .1 .0, H .right _ (c .before .count-roads .ensures .duration))))
+    (m, (s .pre .1 .0, (s .pre .1 .1 .0, H .right _ (omega (arith, c .before .count-roads .ensures .duration)))))
 
 count-roads-add-roads : (t : ℕ) → count-roads-lts.Need-add-roads (calls t) (count-roads-at t) count-roads.Post
 count-roads-add-roads t c =
@@ -121,7 +122,7 @@ count-roads-add-duration t c =
     let a = c .before .before .before .before .before .before .count-roads in
     let b = c .before .before .before .before .count-roads2 in
     let H = halves (in-force t (d .before) .hand) (d .if1 .left) in
-    omega (arith, H .sum _ _ (a .ensures .duration) (b .ensures .duration))
+    omega (arith, H .sum _ _ _ (a .ensures .duration) (b .ensures .duration))
 
 count-roads-returns-2 : (t : ℕ) → count-roads-lts.Need-returns-2 (calls t) (count-roads-at t) count-roads.Post
 count-roads-returns-2 t c =

@@ -3,6 +3,7 @@ use mathlib.Core.Path.{ap, sym, _∙_}
 use mathlib.Core.List.{List, []}
 use lib.ListN.{length}
 use native.Mathlib.Omega.{arith}
+use native.Mathlib.Nat.{le-refl}
 use borrow.Author.Needs.{needs}
 use Rattle.volume.specs.Format.{volumeOf}
 use Rattle.travel.specs.Network.{roadsOf}
@@ -120,7 +121,7 @@ unfold-edge-add-unfold-edge t c =
     let d = c .before .before .before .before .before in
     let s = d .before .before .before .before .before .before in
     let H = halves (in-force t (d .before) .hand) (d .if1 .left) in
-    omega (arith, H .right _ (c .before .before .before .unfold-edge .ensures .0 .duration) .fits)
+    omega (arith, c .before .before .before .unfold-edge .ensures .0 .duration, H .right _ (le-refl _) .fits)
 
 unfold-edge-mul-unfold-edge : (t : ℕ) → unfold-edge-lts.Need-mul-unfold-edge (calls t) (unfold-edge-at t) unfold-edge.Post
 unfold-edge-mul-unfold-edge t c =
@@ -164,7 +165,7 @@ unfold-edge-unfold-edge-requires-2 t c κs =
     let room =
     room-after ks js (s .args .path .now) _ (a .result .roads) (a .ensures .0 .roads) (a .ensures .1) (omega (arith, s .pre .1 .1 .1 .1))
     in
-    (m, (s .pre .1 .0, (s .pre .1 .1 .0, (H .right _ (a .ensures .0 .duration), room))))
+    (m, (s .pre .1 .0, (s .pre .1 .1 .0, (H .right _ (omega (arith, a .ensures .0 .duration)), room))))
 
 unfold-edge-add-roads : (t : ℕ) → unfold-edge-lts.Need-add-roads (calls t) (unfold-edge-at t) unfold-edge.Post
 unfold-edge-add-roads t c =
@@ -182,7 +183,7 @@ unfold-edge-add-duration t c =
     let a = c .before .before .before .before .before .before .before .before .before .before .unfold-edge in
     let b = c .before .before .before .before .before .unfold-edge2 in
     let H = halves (in-force t (d .before) .hand) (d .if1 .left) in
-    omega (arith, H .sum _ _ (a .ensures .0 .duration) (b .ensures .0 .duration))
+    omega (arith, H .sum _ _ _ (a .ensures .0 .duration) (b .ensures .0 .duration))
 
 unfold-edge-same-length-2 : (t : ℕ) → unfold-edge-lts.Need-same-length-2 (calls t) (unfold-edge-at t) unfold-edge.Post
 unfold-edge-same-length-2 t c = search needs

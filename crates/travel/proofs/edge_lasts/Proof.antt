@@ -1,0 +1,38 @@
+use native.Mathlib.Omega.{arith}
+use lib.ListN.{length-replicate}
+use borrow.Author.Needs.{needs}
+use Rattle.travel.proofs.edge_lasts.Statement.{statement}
+use Rattle.travel.proofs.edge_lasts.Tie as tie
+
+slice-aggregate-edge-digested : tie.Need-slice-aggregate-edge-digested
+slice-aggregate-edge-digested c = search needs
+
+edge-digested-requires : tie.Need-edge-digested-requires
+edge-digested-requires c κs =
+    let s = c .before .before .before .before in
+    (s .pre .0, (s .pre .1 .0, (s .pre .1 .1 .0, (s .pre .1 .1 .1, simp length-replicate (omega (arith, c .before .if1 .taken))))))
+
+returns : tie.Need-returns
+returns c = search needs
+
+slice-aggregate-edge-digested-2 : tie.Need-slice-aggregate-edge-digested-2
+slice-aggregate-edge-digested-2 c = search needs
+
+edge-digested-requires-2 : tie.Need-edge-digested-requires-2
+edge-digested-requires-2 c κs =
+    let s = c .before .before .before .before in
+    (s .pre .0, (s .pre .1 .0, (s .pre .1 .1 .0, (s .pre .1 .1 .1, simp length-replicate (omega (arith, s .pre .1 .1 .0 .edges, s .pre .1 .0 .edges-few))))))
+
+returns-2 : tie.Need-returns-2
+returns-2 c = search needs
+
+pub edge-lasts-spec : {M : Type 1} → statement M
+edge-lasts-spec =
+    tie.close
+    (tie.spec
+    slice-aggregate-edge-digested
+    edge-digested-requires
+    returns
+    slice-aggregate-edge-digested-2
+    edge-digested-requires-2
+    returns-2)

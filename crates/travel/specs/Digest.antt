@@ -1,0 +1,145 @@
+-- The digest of a volume: what the code lists once so that an edge's time need not read the sealed words for it. Of each road with one
+-- point its duration, which is the same at every second, of any other road 0; of each edge the content word at which its pieces begin.
+use Prim.Native.Nat.{ℕ, zero, suc, _+_, _*_, _%_, _≤_, _<_}
+use mathlib.Core.Path.{_≡_, refl, ap, ap₂, sym, _∙_}
+use mathlib.Core.Logic.{_≢_}
+use mathlib.Core.List.{List}
+use native.Mathlib.Omega.{arith}
+use native.Mathlib.Decide.{ℕ-discrete}
+use native.Mathlib.Numerals.{add-one}
+use lib.ListN.{length, getD, set, length-set}
+use lib.Seq.{getD-set-same, getD-set-other}
+use lib.Dec.{eqb}
+use borrow.Author.Tests.{eq-eqb, ne-eqb}
+use Rattle.block.specs.Choose.{choose, choose-yes, choose-no}
+use Rattle.volume.specs.Format.{Volume, piecesAt}
+use Rattle.volume.specs.Rules.{begins}
+use Rattle.volume.specs.Passes.{begins-next}
+use Rattle.volume.specs.Sound.{Sound}
+use Rattle.travel.specs.Network.{roadTime}
+use Rattle.travel.specs.PointsFrom.{of-road, one-is}
+
+-- the duration of road k where it has one point, else 0
+unfoldable pub steadyOf : Volume → ℕ → ℕ
+steadyOf vol k = choose (eqb (vol .road-points k) 1) (vol .point-duration (vol .road-first k)) 0
+
+pub steady-one : (vol : Volume) (k : ℕ) → vol .road-points k ≡ 1 → steadyOf vol k ≡ vol .point-duration (vol .road-first k)
+unfolding steadyOf
+steady-one vol k e = choose-yes _ _ (eq-eqb _ _ e)
+
+pub steady-none : (vol : Volume) (k : ℕ) → vol .road-points k ≢ 1 → steadyOf vol k ≡ 0
+unfolding steadyOf
+steady-none vol k n = choose-no _ _ (ne-eqb _ _ n)
+
+-- the content word at which piece p stands
+abbrev pub pieceWord : Volume → ℕ → ℕ
+pieceWord vol p = piecesAt (vol .roads) (vol .points) (vol .edges) + 3 * p
+
+-- the content word at which the pieces of edge e begin: where those of the edge before end
+abbrev pub piecesFrom : Volume → ℕ → ℕ
+piecesFrom vol e = pieceWord vol (begins (vol .edge-first) (vol .edge-pieces) e)
+
+-- from where the table of pieces begins, as the code adds it up
+module _ (vol : Volume) (base : ℕ) (b : base ≡ piecesAt (vol .roads) (vol .points) (vol .edges)) where
+  pub pieces-start : base ≡ piecesFrom vol 0
+  unfolding begins
+  pieces-start = omega arith
+
+  pub pieces-end : (e first number : ℕ) → first ≡ vol .edge-first e → number ≡ vol .edge-pieces e
+      → base + 3 * (first + number) ≡ piecesFrom vol (e + 1)
+  pieces-end e first number f n = let q = begins-next (vol .edge-first) (vol .edge-pieces) e in omega arith
+
+-- the list with f 0, f 1 and so on in the n places from place o on
+unfoldable pub listed : ℕ → (ℕ → ℕ) → ℕ → List ℕ → List ℕ
+listed o f zero l = l
+listed o f (suc n) l = set (listed o f n l) (o + n) (f n)
+
+-- the list with the digest: the roads, and behind 4,096 places the edges and the end of the last
+abbrev pub digestOf : Volume → List ℕ → List ℕ
+digestOf vol l = listed 4096 (piecesFrom vol) (vol .edges + 1) (listed 0 (steadyOf vol) (vol .roads) l)
+
+-- the list holds the digest
+pub record Digest (vol : Volume) (l : List ℕ) : Type 0 where
+  pub room : 4096 + vol .edges < length l
+  pub roads : (k : ℕ) → k < vol .roads → getD l k 0 ≡ steadyOf vol k
+  pub edges : (e : ℕ) → e ≤ vol .edges → getD l (4096 + e) 0 ≡ piecesFrom vol e
+
+-- with no place written, and one more
+pub listed-none : (o : ℕ) (f : ℕ → ℕ) (l : List ℕ) → l ≡ listed o f 0 l
+unfolding listed
+listed-none o f l = refl
+
+pub listed-next : (o : ℕ) (f : ℕ → ℕ) (n : ℕ) (l : List ℕ) → listed o f (n + 1) l ≡ set (listed o f n l) (o + n) (f n)
+unfolding listed
+listed-next o f n l = ap (λ (m : ℕ). listed o f m l) (add-one n)
+
+pub listed-more : (o : ℕ) (f : ℕ → ℕ) (n : ℕ) (l d : List ℕ) (x : ℕ) → d ≡ listed o f n l → x ≡ f n
+    → set d (o + n) x ≡ listed o f (n + 1) l
+listed-more o f n l d x e q = ap₂ (λ (m : List ℕ) (y : ℕ). set m (o + n) y) e q ∙ sym (listed-next o f n l)
+
+-- the list stays as long as it was
+pub listed-length : (o : ℕ) (f : ℕ → ℕ) (n : ℕ) (l : List ℕ) → length (listed o f n l) ≡ length l
+unfolding listed
+listed-length o f zero l = refl
+listed-length o f (suc n) l = length-set (listed o f n l) (o + n) (f n) ∙ listed-length o f n l
+
+-- what the written places hold
+pub listed-at : (o : ℕ) (f : ℕ → ℕ) (n : ℕ) (l : List ℕ) (i : ℕ) → i < n → o + n ≤ length l
+    → getD (listed o f n l) (o + i) 0 ≡ f i
+unfolding listed
+listed-at o f zero l i h room = absurd (omega arith)
+listed-at o f (suc n) l i h room = go (ℕ-discrete i n) (λ q. listed-at o f n l i q (omega arith))
+  where
+    go : Dec (i ≡ n) → (i < n → getD (listed o f n l) (o + i) 0 ≡ f i) → getD (listed o f (suc n) l) (o + i) 0 ≡ f i
+    go (yes q) before = rw q (getD-set-same (listed o f n l) (o + n) (f n) 0 (omega (arith, listed-length o f n l)))
+    go (no q) before = getD-set-other (listed o f n l) (o + n) (o + i) (f n) 0 (λ z. q (omega arith)) ∙ before (omega arith)
+
+-- the places before them hold what they held
+pub listed-before : (o : ℕ) (f : ℕ → ℕ) (n : ℕ) (l : List ℕ) (j : ℕ) → j < o → getD (listed o f n l) j 0 ≡ getD l j 0
+unfolding listed
+listed-before o f zero l j h = refl
+listed-before o f (suc n) l j h =
+    getD-set-other (listed o f n l) (o + n) j (f n) 0 (λ z. omega arith)
+    ∙ listed-before o f n l j h
+
+-- the list with the digest holds it
+pub digest-made : (vol : Volume) (l : List ℕ) → vol .roads ≤ 4096 → 4096 + vol .edges < length l → Digest vol (digestOf vol l)
+digest-made vol l few room = record {
+  room = omega (arith, long, edges-long);
+  roads = λ k h.
+      let z : k ≡ 0 + k = omega arith in
+      listed-before 4096 (piecesFrom vol) (vol .edges + 1) one k (omega arith)
+      ∙ ap (λ (j : ℕ). getD one j 0) z
+      ∙ listed-at 0 (steadyOf vol) (vol .roads) l k h (omega arith);
+  edges = λ e h. listed-at 4096 (piecesFrom vol) (vol .edges + 1) one e (omega arith) (omega (arith, long));
+}
+  where
+    one : List ℕ
+    one = listed 0 (steadyOf vol) (vol .roads) l
+
+    long : length one ≡ length l
+    long = listed-length 0 (steadyOf vol) (vol .roads) l
+
+    edges-long : length (digestOf vol l) ≡ length one
+    edges-long = listed-length 4096 (piecesFrom vol) (vol .edges + 1) one
+
+-- the pieces of edge e stand from content word `at` up to content word `end`
+pub record Stands (vol : Volume) (e at end : ℕ) : Type 0 where
+  pub begin : at ≡ pieceWord vol (vol .edge-first e)
+  pub end-is : end ≡ pieceWord vol (vol .edge-first e + vol .edge-pieces e)
+
+-- a sound edge's pieces begin where those of the edge before end, so two neighbours in the digest bound them
+pub stands : {vol : Volume} {l : List ℕ} → Sound vol → Digest vol l → (e : ℕ) → e < vol .edges → (at end : ℕ)
+    → at ≡ getD l (4096 + e) 0 → end ≡ getD l (4096 + (e + 1)) 0 → Stands vol e at end
+stands {vol} {l} S D e h at end a b = record {
+  begin = a ∙ D .edges e (omega arith) ∙ ap (pieceWord vol) (sym (S .edge e h .laid));
+  end-is = b ∙ D .edges (e + 1) (omega arith) ∙ ap (pieceWord vol) (begins-next (vol .edge-first) (vol .edge-pieces) e);
+}
+
+-- a road with a duration in the digest takes so long at every second
+pub steady-lasts : {vol : Volume} → Sound vol → (k x d : ℕ) → k < vol .roads → d ≡ steadyOf vol k → d ≢ 0 → d ≡ roadTime vol k x
+steady-lasts {vol} S k x d h q some = go (ℕ-discrete (vol .road-points k) 1)
+  where
+    go : Dec (vol .road-points k ≡ 1) → d ≡ roadTime vol k x
+    go (yes one) = one-is (of-road S h refl refl) x (x % vol .period) refl d one (q ∙ steady-one vol k one)
+    go (no more) = absurd (some (q ∙ steady-none vol k more))
