@@ -130,42 +130,42 @@ piece-duration-pieces-at-requires t c κs =
     let d = c in
     let s = d .before .before .before .before .before in
     let H = halves (in-hand t (d .before)) (d .if1 .left) in
-    omega (arith, s .pre .1 .1 .1 .0 .room, H .left .there)
+    omega (arith, s .pre .1 .1 .1 .0 .room, s .pre .1 .1 .1 .1 .0 .there, H .left-below, H .right-below)
 
 piece-duration-add-pieces-at : (t : ℕ) → piece-duration-lts.Need-add-pieces-at (piece-calls t) (piece-duration-at t) piece-duration.Post
 piece-duration-add-pieces-at t c =
     let d = c .before in
     let s = d .before .before .before .before .before in
     let H = halves (in-hand t (d .before)) (d .if1 .left) in
-    omega (arith, s .pre .1 .1 .0 .edges-few, H .left .there)
+    omega (arith, s .pre .1 .1 .0 .edges-few, s .pre .1 .1 .1 .1 .0 .there, H .left-below, H .right-below)
 
 piece-duration-pieces-at-requires-2 : (t : ℕ) → piece-duration-lts.Need-pieces-at-requires-2 (piece-calls t) (piece-duration-at t) piece-duration.Post
 piece-duration-pieces-at-requires-2 t c κs =
     let d = c .before in
     let s = d .before .before .before .before .before in
     let H = halves (in-hand t (d .before)) (d .if1 .left) in
-    omega (arith, s .pre .1 .1 .1 .0 .room, H .left .there)
+    omega (arith, s .pre .1 .1 .1 .0 .room, s .pre .1 .1 .1 .1 .0 .there, H .left-below, H .right-below)
 
 piece-duration-pieces-at-requires-3 : (t : ℕ) → piece-duration-lts.Need-pieces-at-requires-3 (piece-calls t) (piece-duration-at t) piece-duration.Post
 piece-duration-pieces-at-requires-3 t c κs =
     let d = c .before .before in
     let s = d .before .before .before .before .before in
     let H = halves (in-hand t (d .before)) (d .if1 .left) in
-    omega (arith, s .pre .1 .1 .1 .0 .room, H .right-below, s .pre .1 .1 .1 .1 .0 .there)
+    omega (arith, s .pre .1 .1 .1 .0 .room, s .pre .1 .1 .1 .1 .0 .there, H .left-below, H .right-below)
 
 piece-duration-add-pieces-at-2 : (t : ℕ) → piece-duration-lts.Need-add-pieces-at-2 (piece-calls t) (piece-duration-at t) piece-duration.Post
 piece-duration-add-pieces-at-2 t c =
     let d = c .before .before .before in
     let s = d .before .before .before .before .before in
     let H = halves (in-hand t (d .before)) (d .if1 .left) in
-    omega (arith, s .pre .1 .1 .0 .edges-few, H .right-below, s .pre .1 .1 .1 .1 .0 .there)
+    omega (arith, s .pre .1 .1 .0 .edges-few, s .pre .1 .1 .1 .1 .0 .there, H .left-below, H .right-below)
 
 piece-duration-pieces-at-requires-4 : (t : ℕ) → piece-duration-lts.Need-pieces-at-requires-4 (piece-calls t) (piece-duration-at t) piece-duration.Post
 piece-duration-pieces-at-requires-4 t c κs =
     let d = c .before .before .before in
     let s = d .before .before .before .before .before in
     let H = halves (in-hand t (d .before)) (d .if1 .left) in
-    omega (arith, s .pre .1 .1 .1 .0 .room, H .right-below, s .pre .1 .1 .1 .1 .0 .there)
+    omega (arith, s .pre .1 .1 .1 .0 .room, s .pre .1 .1 .1 .1 .0 .there, H .left-below, H .right-below)
 
 piece-duration-pieces-duration-requires : (t : ℕ) → piece-duration-lts.Need-pieces-duration-requires (piece-calls t) (piece-duration-at t) piece-duration.Post
 piece-duration-pieces-duration-requires t c κs =
@@ -192,10 +192,9 @@ piece-duration-pieces-duration-requires-2 t c κs =
     let H = halves (in-hand t (d .before)) (d .if1 .left) in
     let S = s .pre .1 .1 .0 in
     let D = s .pre .1 .1 .1 .0 in
-    let R = H .right (s .args .x + c .pieces-duration .result) (omega (arith, c .pieces-duration .ensures)) in
     let m : 2 * d .before .content2 .result + 1 < t = omega (arith, s .pre .0, H .right-below) in
-    let B = stands S D (d .before .content2 .result) (R .there) _ _ (c .before .before .pieces-at3 .ensures .0) (c .before .pieces-at4 .ensures .0) in
-    (m, (s .pre .1 .0, (S, (D, (R, B)))))
+    let B = stands S D (d .before .content2 .result) (omega (arith, H .right-below, s .pre .1 .1 .1 .1 .0 .there)) _ _ (c .before .before .pieces-at3 .ensures .0) (c .before .pieces-at4 .ensures .0) in
+    (m, (s .pre .1 .0, (S, (D, (H .right _ (omega (arith, c .pieces-duration .ensures)), B)))))
 
 piece-duration-add-result : (t : ℕ) → piece-duration-lts.Need-add-result (piece-calls t) (piece-duration-at t) piece-duration.Post
 piece-duration-add-result t c =
