@@ -15,8 +15,8 @@ road-to-requires c κs = search needs
 
 cover-of-requires : tie.Need-cover-of-requires
 cover-of-requires c κs =
-    let s = c .before .before .before .before .before in
-    (s .pre .0, (omega (arith, c .before .road-from .ensures .0, s .pre .0 .sound .road (s .args .k) (s .pre .1) .from-in), names-road (volumeOf (s .args .v .now)) (s .args .k) (s .pre .1)))
+    let s = c .before .before .before .before .before .before in
+    (s .pre .0, (s .pre .1 .0, (omega (arith, c .before .road-from .ensures .0, s .pre .0 .sound .road (s .args .k) (s .pre .1 .1) .from-in), names-road (volumeOf (s .args .v .now)) (s .args .k) (s .pre .1 .1))))
 
 of-road-requires : tie.Need-of-road-requires
 of-road-requires c κs = search needs
@@ -24,7 +24,7 @@ of-road-requires c κs = search needs
 returns : tie.Need-returns
 returns c =
     let f = c .before in
-    let s = f .before .before .before .before .before .before in
+    let s = f .before .before .before .before .before .before .before in
     c .of-road .ensures
     ∙ road-fault-by (volumeOf (s .args .v .now)) (s .args .k) _ _ (f .before .before .road-from .ensures .0) (f .before .road-to .ensures .0) _ (f .cover-of .ensures)
 

@@ -10,38 +10,38 @@ use Rattle.full.proofs.cover.first_slower.Statement.{statement}
 use Rattle.full.proofs.cover.first_slower.Tie as tie
 
 abbrev Inv-loop : tie.InvT-loop
-Inv-loop v t a b left right from end x₀ x =
+Inv-loop v t digest a b left right from end x₀ x =
     (from ≤ x)
     × (x ≤ end)
     × (firstFrom (notAfter (volumeOf v) (named a b) (named left right)) x end ≡ firstFrom (notAfter (volumeOf v) (named a b) (named left right)) from end)
 
 abbrev μ-loop : tie.MeasureT-loop
-μ-loop v t a b left right from end x₀ x = end - x
+μ-loop v t digest a b left right from end x₀ x = end - x
 
 returns : tie.Need-returns Inv-loop μ-loop
 returns c =
-    let s = c .before .before .before in
+    let s = c .before .before .before .before in
     let a = s .args in
-    from-all (notAfter (volumeOf (a .v .now)) (named (a .a) (a .b)) (named (a .left) (a .right))) (a .from) (a .end) (s .pre .1 .1 .1 .1 .0)
+    from-all (notAfter (volumeOf (a .v .now)) (named (a .a) (a .b)) (named (a .left) (a .right))) (a .from) (a .end) (s .pre .1 .1 .1 .1 .1 .0)
     (λ i l h. turn-same (volumeOf (a .v .now)) (a .a) (a .b) (a .left) (a .right) i (c .before .if1 .taken) (c .if2 .taken))
 
 loop-holds : tie.Need-loop-holds Inv-loop μ-loop
-loop-holds c = let s = c .before .before in (omega arith, s .pre .1 .1 .1 .1 .0, refl)
+loop-holds c = let s = c .before .before .before in (omega arith, s .pre .1 .1 .1 .1 .1 .0, refl)
 
 in-turn-requires : tie.Need-in-turn-requires Inv-loop μ-loop
 in-turn-requires c κs =
-    let s = c .before .before .before .before in
-    (s .pre .0, (s .pre .1 .0, (s .pre .1 .1 .1 .0, omega (arith, c .loop-test .taken, s .pre .1 .1 .1 .1 .1))))
+    let s = c .before .before .before .before .before in
+    (s .pre .0, (s .pre .1 .0, (s .pre .1 .1 .0, (s .pre .1 .1 .1 .1 .0, omega (arith, c .loop-test .taken, s .pre .1 .1 .1 .1 .1 .1)))))
 
 in-turn-requires-2 : tie.Need-in-turn-requires-2 Inv-loop μ-loop
 in-turn-requires-2 c κs =
-    let s = c .before .before .before .before .before in
-    (s .pre .0, (s .pre .1 .0, (s .pre .1 .1 .0, omega (arith, c .before .loop-test .taken, s .pre .1 .1 .1 .1 .1))))
+    let s = c .before .before .before .before .before .before in
+    (s .pre .0, (s .pre .1 .0, (s .pre .1 .1 .0, (s .pre .1 .1 .1 .0, omega (arith, c .before .loop-test .taken, s .pre .1 .1 .1 .1 .1 .1)))))
 
 returns-2 : tie.Need-returns-2 Inv-loop μ-loop
 returns-2 c =
     let l = c .before .before .before .before in
-    let a = l .before .before .before .args in
+    let a = l .before .before .before .before .args in
     let p = named (a .a) (a .b) in
     let q = named (a .left) (a .right) in
     let vol = volumeOf (a .v .now) in
@@ -58,7 +58,7 @@ loop-less c = search needs
 loop-again : tie.Need-loop-again Inv-loop μ-loop
 loop-again c =
     let l = c .before .before .before .before in
-    let a = l .before .before .before .args in
+    let a = l .before .before .before .before .args in
     let p = named (a .a) (a .b) in
     let q = named (a .left) (a .right) in
     let vol = volumeOf (a .v .now) in (
@@ -72,7 +72,7 @@ loop-again c =
 returns-3 : tie.Need-returns-3 Inv-loop μ-loop
 returns-3 c =
     let l = c .before in
-    let a = l .before .before .before .args in
+    let a = l .before .before .before .before .args in
     from-end (notAfter (volumeOf (a .v .now)) (named (a .a) (a .b)) (named (a .left) (a .right))) (l .loop .x) (a .end) (omega (arith, c .loop-test .left)) ∙ l .loop .inv .2
 
 pub first-slower-spec : {M : Type 1} → statement M
