@@ -14,8 +14,8 @@ take-out-requires c κs = search needs
 offer-arcs-requires : tie.Need-offer-arcs-requires
 offer-arcs-requires c κs =
     let t = c .before .before .before in
-    let s = t .before .before .before .before .before .before .before in
-    (s .pre .0, (s .pre .1 .0, (s .pre .1 .1 .0, (s .pre .1 .1 .1 .0 .0, omega (arith, t .take-out .kept, s .pre .1 .1 .1 .0 .1)))))
+    let s = t .before .before .before .before .before .before .before .before in
+    (s .pre .0, (s .pre .1 .0, (s .pre .1 .1 .0, (s .pre .1 .1 .1 .0, (s .pre .1 .1 .1 .1 .0 .0, omega (arith, t .take-out .kept, s .pre .1 .1 .1 .1 .0 .1))))))
 
 same-length : tie.Need-same-length
 same-length c = search needs
@@ -24,7 +24,7 @@ returns : tie.Need-returns
 returns c =
     let o = c .before .before .offer-arcs in
     let t = c .before .before .before .before .before .before in
-    let s = t .before .before .before .before .before .before .before in (
+    let s = t .before .before .before .before .before .before .before .before in (
       λ d m. unit-done (volumeOf (s .args .v .now)) d (s .args .s) (s .args .arrival) (s .args .c .junctions) (s .args .work .now) _ _ (s .pre .0 .count)
           (t .take-out .ensures .0) (o .ensures .0 d m),
       o .ensures .1 (t .take-out .ensures .1),
