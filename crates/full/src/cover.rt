@@ -1,7 +1,7 @@
 // How the edges cover one road, or two edges in turn: document 01, "Full". Both are named by two numbers as a piece names them, so
 // that one search serves both: a road is `left` with the right EMPTY, two edges in turn are `left` and `right`.
 use travel::edge::edge_duration;
-use travel::road::road_duration;
+use travel::edge::road_lasts;
 use volume::tables::EMPTY;
 use volume::tables::PERIOD;
 use volume::tables::Tables;
@@ -63,7 +63,7 @@ fn in_turn(v: &[u8], t: Tables, digest: &[u32], left: usize, right: usize, x: u6
     ensures { λ r. ⌜ x + r ≡ arrivalBy (volumeOf (now (v .entry))) (named left right) x ⌝ }
 {
     if right == EMPTY {
-        return road_duration(v, t, left, x);
+        return road_lasts(v, t, digest, left, x);
     }
     let a = edge_duration(v, t, digest, left, x);
     let b = edge_duration(v, t, digest, right, x + a);

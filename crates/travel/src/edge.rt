@@ -49,7 +49,7 @@ fn word_in_force(v: &[u8], t: Tables, e: usize, at: usize, end: usize, x: u64) -
 }
 
 // The duration of road k for who enters it at x.
-fn road_lasts(v: &[u8], t: Tables, digest: &[u32], k: usize, x: u64) -> u64
+pub fn road_lasts(v: &[u8], t: Tables, digest: &[u32], k: usize, x: u64) -> u64
     requires { ⌜ Laid (now v) t ⌝ }
     requires { ⌜ Sound (volumeOf (now v)) ⌝ }
     requires { ⌜ Digest (volumeOf (now v)) (now digest) ⌝ }

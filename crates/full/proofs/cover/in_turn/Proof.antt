@@ -4,15 +4,15 @@ use Rattle.volume.specs.Format.{volumeOf, period-is}
 use Rattle.full.proofs.cover.in_turn.Statement.{statement}
 use Rattle.full.proofs.cover.in_turn.Tie as tie
 
-road-duration-requires : tie.Need-road-duration-requires
-road-duration-requires c κs =
+road-lasts-requires : tie.Need-road-lasts-requires
+road-lasts-requires c κs =
     let s = c .before .before .before in
-    (s .pre .0, (s .pre .1 .0, s .pre .1 .1 .1 .0 .road (c .if1 .taken)))
+    (s .pre .0, (s .pre .1 .0, (s .pre .1 .1 .0, s .pre .1 .1 .1 .0 .road (c .if1 .taken))))
 
 returns : tie.Need-returns
 returns c =
     let s = c .before .before .before .before in
-    road-turn (volumeOf (s .args .v .now)) (s .pre .1 .0) (s .args .left) (s .args .right) (s .args .x) (s .pre .1 .1 .1 .0) _ (c .before .if1 .taken) (c .road-duration .ensures)
+    road-turn (volumeOf (s .args .v .now)) (s .pre .1 .0) (s .args .left) (s .args .right) (s .args .x) (s .pre .1 .1 .1 .0) _ (c .before .if1 .taken) (c .road-lasts .ensures)
 
 edge-duration-requires : tie.Need-edge-duration-requires
 edge-duration-requires c κs =
@@ -48,7 +48,7 @@ pub in-turn-spec : {M : Type 1} → statement M
 in-turn-spec =
     tie.close
     (tie.spec
-    road-duration-requires
+    road-lasts-requires
     returns
     edge-duration-requires
     add-edge-duration
