@@ -15,7 +15,7 @@ ghost use mathlib.Core.Path.{_≡_};
 ghost use Prim.Native.Nat.{_+_, _≤_, _<_};
 ghost use Rattle.volume.specs.Format.{volumeOf, Laid};
 ghost use Rattle.volume.specs.Sound.{Sound};
-ghost use Rattle.travel.specs.Digest.{Digest};
+ghost use Rattle.travel.specs.Digest.{LaidOut, Digest};
 ghost use Rattle.full.specs.Cover.{named, arrivalBy, notAfter, edgeWith, firstLate, coverOf};
 ghost use Rattle.full.specs.Turns.{Names, Ready};
 ghost use Rattle.full.specs.Parts.{pieceEnd};
@@ -54,8 +54,8 @@ fn find_edge(
 }
 
 // How long the road `left`, or the edges `left` and `right` in turn, take for who enters at x.
-fn in_turn(v: &[u8], t: Tables, digest: &[u32], left: usize, right: usize, x: u64) -> u64
-    requires { ⌜ Laid (now v) t ⌝ }
+fn in_turn(v: &[u8], digest: &[u32], left: usize, right: usize, x: u64) -> u64
+    requires { ⌜ LaidOut (now v) ⌝ }
     requires { ⌜ Sound (volumeOf (now v)) ⌝ }
     requires { ⌜ Digest (volumeOf (now v)) (now digest) ⌝ }
     requires { ⌜ Names (volumeOf (now v)) left right ⌝ }
@@ -63,10 +63,10 @@ fn in_turn(v: &[u8], t: Tables, digest: &[u32], left: usize, right: usize, x: u6
     ensures { λ r. ⌜ x + r ≡ arrivalBy (volumeOf (now (v .entry))) (named left right) x ⌝ }
 {
     if right == EMPTY {
-        return road_lasts(v, t, digest, left, x);
+        return road_lasts(v, digest, left, x);
     }
-    let a = edge_duration(v, t, digest, left, x);
-    let b = edge_duration(v, t, digest, right, x + a);
+    let a = edge_duration(v, digest, left, x);
+    let b = edge_duration(v, digest, right, x + a);
     a + b
 }
 
@@ -74,7 +74,6 @@ fn in_turn(v: &[u8], t: Tables, digest: &[u32], left: usize, right: usize, x: u6
 // are equal by definition, and no second is looked at.
 fn first_slower(
     v: &[u8],
-    t: Tables,
     digest: &[u32],
     a: usize,
     b: usize,
@@ -83,7 +82,7 @@ fn first_slower(
     from: u64,
     end: u64,
 ) -> u64
-    requires { ⌜ Laid (now v) t ⌝ }
+    requires { ⌜ LaidOut (now v) ⌝ }
     requires { ⌜ Sound (volumeOf (now v)) ⌝ }
     requires { ⌜ Digest (volumeOf (now v)) (now digest) ⌝ }
     requires { ⌜ Names (volumeOf (now v)) a b ⌝ }
@@ -98,8 +97,8 @@ fn first_slower(
     }
     let mut x = from;
     while x < end {
-        let rival = in_turn(v, t, digest, left, right, x);
-        let own = in_turn(v, t, digest, a, b, x);
+        let rival = in_turn(v, digest, left, right, x);
+        let own = in_turn(v, digest, a, b, x);
         if rival < own {
             return x;
         }
@@ -137,7 +136,7 @@ fn first_late(v: &[u8], t: Tables, digest: &[u32], e: usize, left: usize, right:
         let a = piece_left(v, t, first + i);
         let b = piece_right(v, t, first + i);
         let end = piece_end(v, t, first, n, i);
-        let y = first_slower(v, t, digest, a, b, left, right, x, end);
+        let y = first_slower(v, digest, a, b, left, right, x, end);
         if y < end {
             return y;
         }

@@ -83,7 +83,7 @@ fn offer_edge(
     };
     let at = STATE * to;
     if work[at] < SETTLED {
-        let later = arrival + edge_duration(v, t, digest, e, arrival);
+        let later = arrival + edge_duration(v, digest, e, arrival);
         return offer_to(work, head, to, later, e as u64 + 1);
     }
     head

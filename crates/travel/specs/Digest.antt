@@ -12,12 +12,35 @@ use lib.Seq.{getD-set-same, getD-set-other}
 use lib.Dec.{eqb}
 use borrow.Author.Tests.{eq-eqb, ne-eqb}
 use Rattle.block.specs.Choose.{choose, choose-yes, choose-no}
-use Rattle.volume.specs.Format.{Volume, piecesAt}
+use Rattle.volume.specs.Format.{Volume, volumeOf, countsOf, tablesOf, piecesAt, Few, Laid}
 use Rattle.volume.specs.Rules.{begins}
 use Rattle.volume.specs.Passes.{begins-next}
 use Rattle.volume.specs.Sound.{Sound}
+use Rattle.volume.specs.declared.tables.Tables.{Tables}
 use Rattle.travel.specs.Network.{roadTime}
 use Rattle.travel.specs.PointsFrom.{of-road, one-is}
+
+-- the bytes hold the words of a volume, whose tables stand where its own counts say
+abbrev pub LaidOut : List ℕ → Type 0
+LaidOut v = Laid v (tablesOf (countsOf (volumeOf v)))
+
+pub laid-out : {v : List ℕ} {t : Tables} → Laid v t → LaidOut v
+laid-out L = record { points = refl; edges = refl; pieces = refl; room = L .room; limit = L .limit }
+
+-- they begin with a whole block
+pub laid-some : {v : List ℕ} → LaidOut v → 512 ≤ length v
+laid-some L = omega (arith, L .room)
+
+-- a sound volume's counts are within the limits
+pub sound-few : {vol : Volume} → Sound vol → Few (countsOf vol)
+sound-few S = record {
+  junctions-some = S .junctions-some;
+  junctions = S .junctions-few;
+  roads = S .roads-few;
+  points = S .points-few;
+  edges = S .edges-few;
+  pieces = S .pieces-few;
+}
 
 -- the duration of road k where it has one point, else 0
 unfoldable pub steadyOf : Volume → ℕ → ℕ

@@ -1,6 +1,6 @@
 -- The last index whose key is at most x: the point in force of a road and the piece in force of an edge are both this one, and the
 -- code has one search for it. First the definition, then what it says, and at the end rising keys.
-use Prim.Native.Nat.{ℕ, zero, suc, _+_, _-_, _≤_, _<_}
+use Prim.Native.Nat.{ℕ, zero, suc, _+_, _-_, _/_, _≤_, _<_}
 use mathlib.Core.Path.{_≡_, refl, ap, sym, _∙_, subst}
 use mathlib.Core.Logic.{⊎-elim}
 use mathlib.Core.Bool.{Bool, true, false}
@@ -79,3 +79,38 @@ rise-far key n r i (suc j) a b =
 -- what lies above x at index m lies above x from m on
 pub above-from : (key : ℕ → ℕ) (n x m : ℕ) → Rises key n → x < key m → (j : ℕ) → m ≤ j → j < n → x < key j
 above-from key n x m r h j a b = omega (arith, rise-far key n r m j a b)
+
+-- The search for it.
+
+-- the last index whose key is at most x is one of the `left` indices from `lo` on
+pub record Within (key : ℕ → ℕ) (n x lo left : ℕ) : Type 0 where
+  pub some : 0 < left
+  pub inside : lo + left ≤ n
+  pub le : key lo ≤ x
+  pub above : (j : ℕ) → lo + left ≤ j → j < n → x < key j
+
+pub within-all : (key : ℕ → ℕ) (n x : ℕ) → 0 < n → key 0 ≤ x → Within key n x 0 n
+within-all key n x h k = record { some = h; inside = omega arith; le = k; above = λ j a b. absurd (omega arith) }
+
+-- half of them are left out, by the key in the middle
+module _ (key : ℕ → ℕ) (n x lo left : ℕ) (W : Within key n x lo left) (more : 1 < left) where
+  pub upper-half : key (lo + left / 2) ≤ x → Within key n x (lo + left / 2) (left - left / 2)
+  upper-half k = record {
+    some = omega arith;
+    inside = omega (arith, W .inside);
+    le = k;
+    above = λ j a b. W .above j (omega arith) b;
+  }
+
+  pub lower-half : Rises key n → x < key (lo + left / 2) → Within key n x lo (left - left / 2)
+  lower-half r k = record {
+    some = omega arith;
+    inside = omega (arith, W .inside);
+    le = W .le;
+    above = λ j a b. above-from key n x (lo + left / 2) r k j (omega arith) b;
+  }
+
+-- one is left
+pub within-one : (key : ℕ → ℕ) (n x lo left : ℕ) → Within key n x lo left → left ≤ 1 → lo ≡ lastLe key n x
+within-one key n x lo left W one =
+    sym (last-is key n x lo (record { below = omega (arith, W .some, W .inside); le = W .le; above = λ j a b. W .above j (omega (arith, W .some)) b }))

@@ -13,12 +13,13 @@ use volume::tables::RIGHT;
 use volume::tables::Tables;
 use volume::tables::edge_first;
 use volume::tables::edge_pieces;
+use volume::tables_in;
 ghost use mathlib.Core.Path.{_≡_};
 ghost use Prim.Native.Nat.{_+_, _%_, _<_};
 ghost use Rattle.volume.specs.Format.{volumeOf, Laid};
 ghost use Rattle.volume.specs.Sound.{Sound};
 ghost use Rattle.travel.specs.Network.{pieceAt, roadTime, Enters, arrival};
-ghost use Rattle.travel.specs.Digest.{pieceWord, Stands, Digest};
+ghost use Rattle.travel.specs.Digest.{LaidOut, pieceWord, Stands, Digest};
 
 // The number of edge e's piece in force at x.
 pub fn piece_in_force(v: &[u8], t: Tables, e: usize, x: u64) -> usize
@@ -35,8 +36,8 @@ pub fn piece_in_force(v: &[u8], t: Tables, e: usize, x: u64) -> usize
 
 // The content word of the piece in force at x, of those of edge e, which stand from word `at` up to word `end`. Most edges have one
 // piece, and need no search.
-fn word_in_force(v: &[u8], t: Tables, e: usize, at: usize, end: usize, x: u64) -> usize
-    requires { ⌜ Laid (now v) t ⌝ }
+fn word_in_force(v: &[u8], e: usize, at: usize, end: usize, x: u64) -> usize
+    requires { ⌜ LaidOut (now v) ⌝ }
     requires { ⌜ Sound (volumeOf (now v)) ⌝ }
     requires { ⌜ e < volumeOf (now v) .edges ⌝ }
     requires { ⌜ Stands (volumeOf (now v)) e at end ⌝ }
@@ -49,8 +50,8 @@ fn word_in_force(v: &[u8], t: Tables, e: usize, at: usize, end: usize, x: u64) -
 }
 
 // The duration of road k for who enters it at x.
-pub fn road_lasts(v: &[u8], t: Tables, digest: &[u32], k: usize, x: u64) -> u64
-    requires { ⌜ Laid (now v) t ⌝ }
+pub fn road_lasts(v: &[u8], digest: &[u32], k: usize, x: u64) -> u64
+    requires { ⌜ LaidOut (now v) ⌝ }
     requires { ⌜ Sound (volumeOf (now v)) ⌝ }
     requires { ⌜ Digest (volumeOf (now v)) (now digest) ⌝ }
     requires { ⌜ k < volumeOf (now v) .roads ⌝ }
@@ -60,34 +61,26 @@ pub fn road_lasts(v: &[u8], t: Tables, digest: &[u32], k: usize, x: u64) -> u64
     if d != 0 {
         return d;
     }
-    road_duration(v, t, k, x)
+    road_duration(v, tables_in(v), k, x)
 }
 
 // The duration of edge e for who enters it at x. Its pieces stand from word `at` up to word `end`.
-fn pieces_duration(
-    v: &[u8],
-    t: Tables,
-    digest: &[u32],
-    e: usize,
-    at: usize,
-    end: usize,
-    x: u64,
-) -> u64
-    requires { ⌜ Laid (now v) t ⌝ }
+fn pieces_duration(v: &[u8], digest: &[u32], e: usize, at: usize, end: usize, x: u64) -> u64
+    requires { ⌜ LaidOut (now v) ⌝ }
     requires { ⌜ Sound (volumeOf (now v)) ⌝ }
     requires { ⌜ Digest (volumeOf (now v)) (now digest) ⌝ }
     requires { ⌜ Enters (volumeOf (now v)) e x ⌝ }
     requires { ⌜ Stands (volumeOf (now v)) e at end ⌝ }
     ensures { λ r. ⌜ x + r ≡ arrival (volumeOf (now (v .entry))) e x ⌝ }
 {
-    let w = word_in_force(v, t, e, at, end, x);
-    piece_duration(v, t, digest, e, w, x)
+    let w = word_in_force(v, e, at, end, x);
+    piece_duration(v, digest, e, w, x)
 }
 
 // The same by the piece in force, which stands at word w: the road's, or the left half's and then the right half's from the second at
 // which the left one arrives. Where both halves' pieces stand is read before either half is followed, so that no read waits for a walk.
-fn piece_duration(v: &[u8], t: Tables, digest: &[u32], e: usize, w: usize, x: u64) -> u64
-    requires { ⌜ Laid (now v) t ⌝ }
+fn piece_duration(v: &[u8], digest: &[u32], e: usize, w: usize, x: u64) -> u64
+    requires { ⌜ LaidOut (now v) ⌝ }
     requires { ⌜ Sound (volumeOf (now v)) ⌝ }
     requires { ⌜ Digest (volumeOf (now v)) (now digest) ⌝ }
     requires { ⌜ Enters (volumeOf (now v)) e x ⌝ }
@@ -97,20 +90,20 @@ fn piece_duration(v: &[u8], t: Tables, digest: &[u32], e: usize, w: usize, x: u6
     let left = content(v, w + LEFT) as usize;
     let right = content(v, w + RIGHT) as usize;
     if right == EMPTY {
-        return road_lasts(v, t, digest, left, x);
+        return road_lasts(v, digest, left, x);
     }
     let left_at = pieces_at(digest, left);
     let left_end = pieces_at(digest, left + 1);
     let right_at = pieces_at(digest, right);
     let right_end = pieces_at(digest, right + 1);
-    let a = pieces_duration(v, t, digest, left, left_at, left_end, x);
-    let b = pieces_duration(v, t, digest, right, right_at, right_end, x + a);
+    let a = pieces_duration(v, digest, left, left_at, left_end, x);
+    let b = pieces_duration(v, digest, right, right_at, right_end, x + a);
     a + b
 }
 
 // The duration of edge e for who enters it at x.
-pub fn edge_duration(v: &[u8], t: Tables, digest: &[u32], e: usize, x: u64) -> u64
-    requires { ⌜ Laid (now v) t ⌝ }
+pub fn edge_duration(v: &[u8], digest: &[u32], e: usize, x: u64) -> u64
+    requires { ⌜ LaidOut (now v) ⌝ }
     requires { ⌜ Sound (volumeOf (now v)) ⌝ }
     requires { ⌜ Digest (volumeOf (now v)) (now digest) ⌝ }
     requires { ⌜ Enters (volumeOf (now v)) e x ⌝ }
@@ -118,5 +111,5 @@ pub fn edge_duration(v: &[u8], t: Tables, digest: &[u32], e: usize, x: u64) -> u
 {
     let at = pieces_at(digest, e);
     let end = pieces_at(digest, e + 1);
-    pieces_duration(v, t, digest, e, at, end, x)
+    pieces_duration(v, digest, e, at, end, x)
 }

@@ -54,7 +54,7 @@ fn edge_digested(v: &[u8], t: Tables, c: Counts, e: usize, x: u64, digest: &mut 
     ensures { λ r. ⌜ x + r ≡ arrival (volumeOf (now (v .entry))) e x ⌝ }
 {
     make_digest(v, t, c, digest);
-    edge_duration(v, t, digest, e, x)
+    edge_duration(v, digest, e, x)
 }
 
 // The same. Few edges get a short list, as in opening.

@@ -14,7 +14,7 @@ ghost use mathlib.Core.Path.{_≡_};
 ghost use Prim.Native.Nat.{_+_, _*_, _/_, _≤_, _<_};
 ghost use lib.ListN.{length};
 ghost use Rattle.block.specs.Choose.{choose};
-ghost use Rattle.volume.specs.Format.{volumeOf, countsOf, Counted, Few, Laid};
+ghost use Rattle.volume.specs.Format.{volumeOf, countsOf, tablesOf, Few, Laid};
 ghost use Rattle.volume.specs.Rules.{headFits, fillerZero, countsRule};
 ghost use Rattle.volume.specs.Open.{recordsOf, openOf};
 
@@ -42,6 +42,15 @@ fn head(v: &[u8]) -> Counts
         edges: content(v, 4) as usize,
         pieces: content(v, 5) as usize,
     }
+}
+
+// Where the tables of a volume within the limits begin, as its head says.
+pub fn tables_in(v: &[u8]) -> Tables
+    requires { ⌜ 512 ≤ length (now v) ⌝ }
+    requires { ⌜ Few (countsOf (volumeOf (now v))) ⌝ }
+    ensures { λ r. ⌜ r ≡ tablesOf (countsOf (volumeOf (now (v .entry)))) ⌝ }
+{
+    tables_of(head(v))
 }
 
 // Are the counts within the limits?

@@ -1,6 +1,6 @@
 use native.Mathlib.Omega.{arith}
 use Rattle.volume.specs.Format.{volumeOf}
-use Rattle.travel.specs.Digest.{digest-made}
+use Rattle.travel.specs.Digest.{laid-out, digest-made}
 use borrow.Author.Needs.{needs}
 use Rattle.travel.proofs.edge_digested.Statement.{statement}
 use Rattle.travel.proofs.edge_digested.Tie as tie
@@ -16,7 +16,7 @@ edge-duration-requires c κs =
     let s = m .before .before .before .before in
     let S = s .pre .1 .0 in
     let D = digest-made (volumeOf (s .args .v .now)) (s .args .digest .now) (S .roads-few) (omega (arith, s .pre .1 .1 .0 .edges, s .pre .1 .1 .1 .1)) in
-    (s .pre .0, (S, (rw (m .make-digest .ensures) D, s .pre .1 .1 .1 .0)))
+    (laid-out (s .pre .0), (S, (rw (m .make-digest .ensures) D, s .pre .1 .1 .1 .0)))
 
 same-length : tie.Need-same-length
 same-length c = search needs

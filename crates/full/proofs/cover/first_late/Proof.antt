@@ -5,6 +5,7 @@ use Rattle.full.specs.Parts.{Begins, begins-first, begins-next, piece-na
 use Rattle.full.specs.Cover.{named, noSlower}
 use Rattle.volume.specs.Format.{volumeOf}
 use Rattle.block.specs.First.{Passed, first-start}
+use Rattle.travel.specs.Digest.{laid-out}
 use Rattle.full.proofs.cover.first_late.Statement.{statement}
 use Rattle.full.proofs.cover.first_late.Tie as tie
 
@@ -72,7 +73,7 @@ first-slower-requires c κs =
     let hf = p .before .edge-first .ensures .0 in
     let hn = p .edge-pieces .ensures .0 in
     let N = piece-named vol (s .pre .1 .0) (s .args .e) _ _ (s .pre .1 .1 .1 .0) hf hn (l .loop .i) lt _ _ (c .before .before .piece-left .ensures .0) (c .before .piece-right .ensures .0) in
-    (s .pre .0, (s .pre .1 .0, (s .pre .1 .1 .0, (N, (s .pre .1 .1 .1 .1, piece-bounds vol (s .pre .1 .0) (s .args .e) _ _ (s .pre .1 .1 .1 .0) hf hn (l .loop .i) lt (l .loop .x) _ (l .loop .inv .1) (c .piece-end .ensures))))))
+    (laid-out (s .pre .0), (s .pre .1 .0, (s .pre .1 .1 .0, (N, (s .pre .1 .1 .1 .1, piece-bounds vol (s .pre .1 .0) (s .args .e) _ _ (s .pre .1 .1 .1 .0) hf hn (l .loop .i) lt (l .loop .x) _ (l .loop .inv .1) (c .piece-end .ensures))))))
 
 returns : tie.Need-returns Inv-loop μ-loop
 returns c =

@@ -10,13 +10,13 @@ use Rattle.full.proofs.cover.first_slower.Statement.{statement}
 use Rattle.full.proofs.cover.first_slower.Tie as tie
 
 abbrev Inv-loop : tie.InvT-loop
-Inv-loop v t digest a b left right from end x₀ x =
+Inv-loop v digest a b left right from end x₀ x =
     (from ≤ x)
     × (x ≤ end)
     × (firstFrom (notAfter (volumeOf v) (named a b) (named left right)) x end ≡ firstFrom (notAfter (volumeOf v) (named a b) (named left right)) from end)
 
 abbrev μ-loop : tie.MeasureT-loop
-μ-loop v t digest a b left right from end x₀ x = end - x
+μ-loop v digest a b left right from end x₀ x = end - x
 
 returns : tie.Need-returns Inv-loop μ-loop
 returns c =

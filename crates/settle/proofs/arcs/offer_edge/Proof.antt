@@ -6,6 +6,7 @@ use borrow.Author.Needs.{needs}
 use Rattle.settle.specs.Arcs.{webOf, statesOf, lead-below, arc-skipped, arc-settled, arc-offered, enters-soon, arrives-soon}
 use Rattle.settle.specs.Offered.{rechained-offer}
 use Rattle.volume.specs.Format.{volumeOf}
+use Rattle.travel.specs.Digest.{laid-out}
 use Rattle.settle.proofs.arcs.offer_edge.Statement.{statement}
 use Rattle.settle.proofs.arcs.offer_edge.Tie as tie
 
@@ -49,7 +50,7 @@ edge-duration-requires : tie.Need-edge-duration-requires
 edge-duration-requires c κs =
     let s = c .before .before .before .before .before .before .before .before .before .before in
     let R = s .pre .0 in
-    (R .laid, (R .sound, (s .pre .1 .0, enters-soon (volumeOf (s .args .v .now)) (R .sound) (s .args .e) (s .args .arrival) (s .pre .1 .1 .0 .0) (s .pre .1 .1 .1 .0))))
+    (laid-out (R .laid), (R .sound, (s .pre .1 .0, enters-soon (volumeOf (s .args .v .now)) (R .sound) (s .args .e) (s .args .arrival) (s .pre .1 .1 .0 .0) (s .pre .1 .1 .1 .0))))
 
 add-later : tie.Need-add-later
 add-later c =

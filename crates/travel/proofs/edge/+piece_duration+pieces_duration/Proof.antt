@@ -24,10 +24,10 @@ use Rattle.travel.proofs.edge.+piece_duration+pieces_duration.{statemen
 use Rattle.travel.proofs.edge.+piece_duration+pieces_duration.Tie.{close}
 
 abbrev μ-pieces-duration : Measures 2 pieces-duration-kinds.ps ℕ
-μ-pieces-duration κs a = 2 * a .1 .1 .1 .0 + 1
+μ-pieces-duration κs a = 2 * a .1 .1 .0 + 1
 
 abbrev μ-piece-duration : Measures 2 piece-duration-kinds.ps ℕ
-μ-piece-duration κs a = 2 * a .1 .1 .1 .0
+μ-piece-duration κs a = 2 * a .1 .1 .0
 
 abbrev pieces-duration-at : ℕ → In 2 pieces-duration-kinds.ps
 pieces-duration-at t = and 2 pieces-duration-kinds.ps (is 2 pieces-duration-kinds.ps μ-pieces-duration t) pieces-duration.Pre

@@ -1,79 +1,84 @@
--- `travel::last::last_at` meets its contract. The loop's invariant: the word at `lo` is at most x, and every word from `hi` on is above x.
-use Prim.Native.Nat.{ℕ, _≤_, _-_, _+_, _/_, _<_}
-use mathlib.Core.Path.{sym}
+use Prim.Native.Nat.{_+_, _/_}
+use mathlib.Core.Path.{_∙_}
+use mathlib.Core.Logic.{⊎-elim}
 use native.Mathlib.Omega.{arith}
-use borrow.Author.Needs.{needs}
-use Rattle.travel.specs.Last.{last-is, above-from}
+use Rattle.travel.specs.Last.{Within, within-all, upper-half, lower-half, within-one}
 use Rattle.travel.specs.Row.{rowAt, row-held}
+use borrow.Author.Needs.{needs}
 use Rattle.travel.proofs.last.last_at.Statement.{statement}
 use Rattle.travel.proofs.last.last_at.Tie as tie
 
 abbrev Inv-loop : tie.InvT-loop
-Inv-loop v base stride n x lo₀ hi₀ lo hi =
-    (lo < hi) × (hi ≤ n) × (rowAt v base stride lo ≤ x) × ((j : ℕ) → hi ≤ j → j < n → x < rowAt v base stride j)
+Inv-loop v base stride n x lo₀ left₀ lo left = Within (rowAt v base stride) n x lo left
 
 abbrev μ-loop : tie.MeasureT-loop
-μ-loop v base stride n x lo₀ hi₀ lo hi = hi - lo
+μ-loop v base stride n x lo₀ left₀ lo left = left
 
 loop-holds : tie.Need-loop-holds Inv-loop μ-loop
-loop-holds c = (c .before .pre .some, omega arith, c .before .pre .first, λ j a b. absurd (omega arith))
-
-add-loop : tie.Need-add-loop Inv-loop μ-loop
-add-loop c = search needs
-
-sub-mid : tie.Need-sub-mid Inv-loop μ-loop
-sub-mid c = search needs
-
-add-mid : tie.Need-add-mid Inv-loop μ-loop
-add-mid c = search needs
-
-mul-content : tie.Need-mul-content Inv-loop μ-loop
-mul-content c =
-    let s = c .before .before .before in
-    let m = c .before .loop .lo + (c .before .loop .hi - c .before .loop .lo) / 2 in
-    omega (arith, row-held (s .args .v .now) (s .args .base) (s .args .stride) (s .args .n) (s .args .x) m (s .pre) (omega arith), s .good)
+loop-holds c = let s = c .before in within-all _ _ _ (s .pre .some) (s .pre .first)
 
 add-content : tie.Need-add-content Inv-loop μ-loop
 add-content c =
-    let s = c .before .before .before in
-    let m = c .before .loop .lo + (c .before .loop .hi - c .before .loop .lo) / 2 in
-    omega (arith, row-held (s .args .v .now) (s .args .base) (s .args .stride) (s .args .n) (s .args .x) m (s .pre) (omega arith), s .good)
+    let l = c .before in
+    let s = l .before .before in
+    omega (arith, l .loop .inv .inside, s .good)
+
+mul-content : tie.Need-mul-content Inv-loop μ-loop
+mul-content c =
+    let l = c .before in
+    let s = l .before .before in
+    let a = s .args in
+    let m = l .loop .lo + l .loop .left / 2 in
+    omega (arith, row-held (a .v .now) (a .base) (a .stride) (a .n) (a .x) m (s .pre) (omega (arith, l .loop .inv .inside)), s .good)
+
+add-content-2 : tie.Need-add-content-2 Inv-loop μ-loop
+add-content-2 c =
+    let l = c .before in
+    let s = l .before .before in
+    let a = s .args in
+    let m = l .loop .lo + l .loop .left / 2 in
+    omega (arith, row-held (a .v .now) (a .base) (a .stride) (a .n) (a .x) m (s .pre) (omega (arith, l .loop .inv .inside)), s .good)
 
 content-requires : tie.Need-content-requires Inv-loop μ-loop
 content-requires c κs =
-    let s = c .before .before .before in
-    let m = c .before .loop .lo + (c .before .loop .hi - c .before .loop .lo) / 2 in
-    row-held (s .args .v .now) (s .args .base) (s .args .stride) (s .args .n) (s .args .x) m (s .pre) (omega arith)
+    let l = c .before in
+    let s = l .before .before in
+    let a = s .args in
+    let m = l .loop .lo + l .loop .left / 2 in
+    row-held (a .v .now) (a .base) (a .stride) (a .n) (a .x) m (s .pre) (omega (arith, l .loop .inv .inside))
 
 cast-if1 : tie.Need-cast-if1 Inv-loop μ-loop
 cast-if1 c = search needs
 
+add-lo : tie.Need-add-lo Inv-loop μ-loop
+add-lo c =
+    let l = c .before .before .before in
+    omega (arith, l .loop .inv .inside, l .before .before .good)
+
+sub-left : tie.Need-sub-left Inv-loop μ-loop
+sub-left c = omega arith
+
 loop-less : tie.Need-loop-less Inv-loop μ-loop
-loop-less c = search needs
+loop-less c = let t = c .before .before .loop-test .taken in omega arith
 
 loop-again : tie.Need-loop-again Inv-loop μ-loop
-loop-again c = (omega arith, omega arith, omega arith, c .before .before .before .loop .inv .3)
-
-loop-less-2 : tie.Need-loop-less-2 Inv-loop μ-loop
-loop-less-2 c = search needs
-
-loop-again-2 : tie.Need-loop-again-2 Inv-loop μ-loop
-loop-again-2 c =
-    let s = c .before .before .before in
-    let a = s .before .before .args in
-    let m = s .loop .lo + (s .loop .hi - s .loop .lo) / 2 in
-    let above =
-    above-from (rowAt (a .v .now) (a .base) (a .stride)) (a .n) (a .x) m (s .before .before .pre .rise) (omega arith)
-    in
-    (omega arith, omega arith, s .loop .inv .2, above)
+loop-again c =
+    let t = c .before .before .loop-test .taken in
+    let l = c .before .before .before in
+    let s = l .before .before in
+    let key = rowAt (s .args .v .now) (s .args .base) (s .args .stride) in
+    let W = l .loop .inv in
+    let e = c .before .content .ensures in
+    ⊎-elim
+    (λ r. rw (r .1) (upper-half key (s .args .n) (s .args .x) (l .loop .lo) (l .loop .left) W t (omega (arith, e, r .0 .taken))))
+    (λ r. rw (r .1) (lower-half key (s .args .n) (s .args .x) (l .loop .lo) (l .loop .left) W t (s .pre .rise) (omega (arith, e, r .0 .left))))
+    (c .if1 .came)
 
 returns : tie.Need-returns Inv-loop μ-loop
 returns c =
-    let a = c .before .before .before .args in
-    let i = c .before .loop .inv in
-    sym
-    (last-is (rowAt (a .v .now) (a .base) (a .stride)) (a .n) (a .x) (c .before .loop .lo)
-    (record { below = omega arith; le = i .2; above = λ j p q. i .3 j (omega arith) q }))
+    let l = c .before in
+    let a = l .before .before .args in
+    within-one (rowAt (a .v .now) (a .base) (a .stride)) (a .n) (a .x) (l .loop .lo) (l .loop .left) (l .loop .inv) (omega (arith, c .loop-test .left))
 
 pub last-at-spec : {M : Type 1} → statement M
 last-at-spec =
@@ -82,15 +87,13 @@ last-at-spec =
     Inv-loop
     μ-loop
     loop-holds
-    add-loop
-    sub-mid
-    add-mid
-    mul-content
     add-content
+    mul-content
+    add-content-2
     content-requires
     cast-if1
+    add-lo
+    sub-left
     loop-less
     loop-again
-    loop-less-2
-    loop-again-2
     returns)
