@@ -1,5 +1,5 @@
 // How long an edge takes at a departure: document 01, "Travel time". The edge asks its piece in force, and the piece asks the edges
-// below: one cycle of calls, in which the edge number falls.
+// below: one cycle of calls, in which the edge number falls. What the digest has is not read from the sealed words.
 use crate::digest::pieces_at;
 use crate::digest::steady_at;
 use crate::last::last_at;
@@ -10,29 +10,13 @@ use volume::tables::LEFT;
 use volume::tables::PERIOD;
 use volume::tables::PIECE_WORDS;
 use volume::tables::RIGHT;
-use volume::tables::Tables;
-use volume::tables::edge_first;
-use volume::tables::edge_pieces;
 use volume::tables_in;
 ghost use mathlib.Core.Path.{_≡_};
 ghost use Prim.Native.Nat.{_+_, _%_, _<_};
-ghost use Rattle.volume.specs.Format.{volumeOf, Laid};
+ghost use Rattle.volume.specs.Format.{volumeOf};
 ghost use Rattle.volume.specs.Sound.{Sound};
 ghost use Rattle.travel.specs.Network.{pieceAt, roadTime, Enters, arrival};
 ghost use Rattle.travel.specs.Digest.{LaidOut, pieceWord, Stands, Digest};
-
-// The number of edge e's piece in force at x.
-pub fn piece_in_force(v: &[u8], t: Tables, e: usize, x: u64) -> usize
-    requires { ⌜ Laid (now v) t ⌝ }
-    requires { ⌜ Sound (volumeOf (now v)) ⌝ }
-    requires { ⌜ e < volumeOf (now v) .edges ⌝ }
-    ensures { λ r. ⌜ r ≡ pieceAt (volumeOf (now (v .entry))) e (x % volumeOf (now (v .entry)) .period) ⌝ }
-{
-    let first = edge_first(v, t, e);
-    let n = edge_pieces(v, t, e);
-    let base = t.pieces;
-    first + last_at(v, base + PIECE_WORDS * first, PIECE_WORDS, n, x % PERIOD)
-}
 
 // The content word of the piece in force at x, of those of edge e, which stand from word `at` up to word `end`. Most edges have one
 // piece, and need no search.

@@ -1,17 +1,21 @@
 // The roads of an edge at a departure: document 01, "The settling rule", on the path. An edge is unfolded by its piece in force, the
 // left half first, and the right half's roads are written directly after it.
-use crate::edge::piece_in_force;
+use crate::last::last_at;
 use crate::road::road_duration;
 use volume::tables::EMPTY;
+use volume::tables::PERIOD;
+use volume::tables::PIECE_WORDS;
 use volume::tables::Tables;
+use volume::tables::edge_first;
+use volume::tables::edge_pieces;
 use volume::tables::piece_left;
 use volume::tables::piece_right;
 ghost use mathlib.Core.Path.{_≡_};
-ghost use Prim.Native.Nat.{_≤_};
+ghost use Prim.Native.Nat.{_%_, _≤_, _<_};
 ghost use lib.ListN.{length};
 ghost use Rattle.volume.specs.Format.{volumeOf, Laid};
 ghost use Rattle.volume.specs.Sound.{Sound};
-ghost use Rattle.travel.specs.Network.{Enters, roadsOf};
+ghost use Rattle.travel.specs.Network.{pieceAt, Enters, roadsOf};
 ghost use Rattle.travel.specs.Unfolds.{Unfolds};
 ghost use Rattle.travel.specs.Written.{withRoads};
 
@@ -20,6 +24,19 @@ ghost use Rattle.travel.specs.Written.{withRoads};
 pub struct Unfolded {
     pub roads: usize,
     pub duration: u64,
+}
+
+// The number of edge e's piece in force at x. Only the edges of a path are unfolded, so their pieces are read where they stand.
+fn piece_in_force(v: &[u8], t: Tables, e: usize, x: u64) -> usize
+    requires { ⌜ Laid (now v) t ⌝ }
+    requires { ⌜ Sound (volumeOf (now v)) ⌝ }
+    requires { ⌜ e < volumeOf (now v) .edges ⌝ }
+    ensures { λ r. ⌜ r ≡ pieceAt (volumeOf (now (v .entry))) e (x % volumeOf (now (v .entry)) .period) ⌝ }
+{
+    let first = edge_first(v, t, e);
+    let n = edge_pieces(v, t, e);
+    let base = t.pieces;
+    first + last_at(v, base + PIECE_WORDS * first, PIECE_WORDS, n, x % PERIOD)
 }
 
 // The number of roads of edge e for who enters it at x, and its duration.

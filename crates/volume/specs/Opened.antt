@@ -14,7 +14,7 @@ use Rattle.block.specs.First.{allBelow, all-below}
 use Rattle.block.specs.Good.{firstBad}
 use Rattle.block.specs.Whole.{whole}
 use Rattle.volume.specs.Format.{Volume, volumeOf, countsOf, wordsOf, tablesOf, Counted, Few, Laid, period-is}
-use Rattle.volume.specs.Rules.{longest, mostSpan, empty, endsFit, begins, placed, pointFits, nextSecond, nextDuration, pointRule, second, duration, roadRule, allObey, roadsRule, start, sameEnds, newEnds, startFits, roadJoins, meet, pairJoins, pieceFits, pieceRule, pieceSpan, greatestSpan, spanRule, edgeRule, edgesRule, countsRule, headFits, fewestBlocks, firstRoad, firstEdge}
+use Rattle.volume.specs.Rules.{longest, empty, endsFit, begins, placed, pointFits, nextSecond, nextDuration, pointRule, second, duration, roadRule, allObey, roadsRule, start, sameEnds, newEnds, startFits, roadJoins, meet, pairJoins, pieceFits, pieceRule, pieceSpan, greatestSpan, edgeRule, edgesRule, countsRule, headFits, fewestBlocks, firstRoad, firstEdge}
 use Rattle.volume.specs.Sound.{Points, SoundRoad, RoadPiece, PairPiece, SoundEdge, Sound}
 use Rattle.volume.specs.Passes.{ends-fact, placed-fact}
 use Rattle.volume.specs.EdgeSteps.{EdgeTests, edge-tests, edge-spans}

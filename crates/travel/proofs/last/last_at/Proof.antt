@@ -1,5 +1,4 @@
 use Prim.Native.Nat.{_+_, _/_}
-use mathlib.Core.Path.{_∙_}
 use mathlib.Core.Logic.{⊎-elim}
 use native.Mathlib.Omega.{arith}
 use Rattle.travel.specs.Last.{Within, within-all, upper-half, lower-half, within-one}

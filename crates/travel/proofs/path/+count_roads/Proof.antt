@@ -9,7 +9,7 @@ use borrow.Fn.PlainCycle.{Measures, is, falls, and}
 use Rattle.travel.proofs.path.count_roads.Reads as count-roads
 use Rattle.travel.proofs.path.count_roads.Kinds as count-roads-kinds
 use Rattle.travel.proofs.path.+count_roads.Lts-count_roads as count-roads-lts
-use Rattle.travel.proofs.edge.piece_in_force.Reads as piece-in-force-reads
+use Rattle.travel.proofs.path.piece_in_force.Reads as piece-in-force-reads
 use Rattle.travel.proofs.road.road_duration.Reads as road-duration-reads
 use Rattle.volume.proofs.tables.piece_left.Reads as piece-left-reads
 use Rattle.volume.proofs.tables.piece_right.Reads as piece-right-reads

@@ -15,7 +15,7 @@ use borrow.Fn.PlainCycle.{Measures, is, falls, and}
 use Rattle.travel.proofs.path.unfold_edge.Reads as unfold-edge
 use Rattle.travel.proofs.path.unfold_edge.Kinds as unfold-edge-kinds
 use Rattle.travel.proofs.path.+unfold_edge.Lts-unfold_edge as unfold-edge-lts
-use Rattle.travel.proofs.edge.piece_in_force.Reads as piece-in-force-reads
+use Rattle.travel.proofs.path.piece_in_force.Reads as piece-in-force-reads
 use Rattle.travel.proofs.road.road_duration.Reads as road-duration-reads
 use Rattle.volume.proofs.tables.piece_left.Reads as piece-left-reads
 use Rattle.volume.proofs.tables.piece_right.Reads as piece-right-reads

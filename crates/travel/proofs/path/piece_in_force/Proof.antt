@@ -5,8 +5,8 @@ use Rattle.travel.specs.Network.{same-second}
 use Rattle.travel.specs.Halves.{force-in}
 use Rattle.travel.specs.Row.{starts-row, starts-last}
 use borrow.Author.Needs.{needs}
-use Rattle.travel.proofs.edge.piece_in_force.Statement.{statement}
-use Rattle.travel.proofs.edge.piece_in_force.Tie as tie
+use Rattle.travel.proofs.path.piece_in_force.Statement.{statement}
+use Rattle.travel.proofs.path.piece_in_force.Tie as tie
 
 edge-first-requires : tie.Need-edge-first-requires
 edge-first-requires c κs = search needs
