@@ -154,7 +154,7 @@ fn run_indexed(
 }
 
 // Runs the rule from `from` to `to`: what it ends with, and the labels in the first 8 N work numbers, whatever they held before. Few
-// edges get a short list for their index, as in opening.
+// edges get short lists for their index and the digest, as in opening.
 pub fn run(
     v: &[u8],
     t: Tables,

@@ -255,7 +255,7 @@ fn pass_within(v: &[u8], t: Tables, c: Counts, list: &mut [u16]) -> Pass
 }
 
 // The pass over all edges: the first at fault, or E where pieces are left over. A list of the full length takes longer to make than
-// a volume of a block or two takes to read, so one of few edges gets a short list.
+// a volume of a block or two takes to read, so fewer edges get a shorter list.
 pub fn edges_pass(v: &[u8], t: Tables, c: Counts) -> Pass
     requires { ⌜ Laid (now v) t ⌝ }
     requires { ⌜ Counted (volumeOf (now v)) c ⌝ }
@@ -264,6 +264,10 @@ pub fn edges_pass(v: &[u8], t: Tables, c: Counts) -> Pass
 {
     if c.edges <= 1024 {
         let mut list = [0u16; 3072];
+        return pass_within(v, t, c, &mut list);
+    }
+    if c.edges <= 4096 {
+        let mut list = [0u16; 12288];
         return pass_within(v, t, c, &mut list);
     }
     let mut list = [0u16; 49152];
