@@ -2,6 +2,7 @@
 // Answers to document 01, "Full".
 use crate::cover::Cover;
 use crate::cover::cover_of;
+use travel::digest::LONG;
 use travel::digest::make_digest;
 use volume::Opening;
 use volume::index::index_edges;
@@ -200,7 +201,7 @@ fn fault_of(v: &[u8], t: Tables, c: Counts) -> Verdict
 {
     let mut first = [0u16; 1024];
     let mut next = [0u16; 16384];
-    let mut digest = [0u32; 20481];
+    let mut digest = [0u32; LONG];
     index_edges(v, t, c, &mut first, &mut next);
     make_digest(v, t, c, &mut digest);
     let found = roads_fault(v, t, &first, &next, &digest, c.edges, c.roads);

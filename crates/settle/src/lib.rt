@@ -8,6 +8,8 @@ use crate::marks::mark;
 use crate::seen::View;
 use crate::seen::see;
 use crate::seen::upper;
+use travel::digest::LONG;
+use travel::digest::SHORT;
 use travel::digest::make_digest;
 use volume::index::index_edges;
 use volume::tables::Counts;
@@ -17,7 +19,7 @@ ghost use Prim.Native.Nat.{_+_, _*_, _^_, _≤_, _<_};
 ghost use lib.ListN.{length};
 ghost use Rattle.volume.specs.Format.{volumeOf, Counted, Few, Laid};
 ghost use Rattle.volume.specs.Index.{Linked};
-ghost use Rattle.travel.specs.Digest.{Digest};
+ghost use Rattle.travel.specs.Digest.{edgesAt, Digest};
 ghost use Rattle.volume.specs.Sound.{Sound};
 ghost use Rattle.settle.specs.Marked.{MarksBelow};
 ghost use Rattle.settle.specs.Outcome.{Ran};
@@ -128,7 +130,7 @@ fn run_indexed(
     requires { ⌜ Counted (volumeOf (now v)) c ⌝ }
     requires { ⌜ Few c ⌝ }
     requires { ⌜ Sound (volumeOf (now v)) ⌝ }
-    requires { ⌜ (c .edges ≤ length (now next)) × (4096 + c .edges < length (now digest)) ⌝ }
+    requires { ⌜ (c .edges ≤ length (now next)) × (edgesAt + c .edges < length (now digest)) ⌝ }
     requires { ⌜ Question (volumeOf (now v)) from to departure budget (now work) ⌝ }
     ensures { λ r. ⌜ Ran (volumeOf (now (v .entry))) from to departure budget (now (work .entry)) (now (work .exit)) r ⌝ }
 {
@@ -174,7 +176,7 @@ pub fn run(
 {
     if c.edges <= 1024 {
         let mut next = [0u16; 1024];
-        let mut digest = [0u32; 5121];
+        let mut digest = [0u32; SHORT];
         return run_indexed(
             v,
             t,
@@ -189,7 +191,7 @@ pub fn run(
         );
     }
     let mut next = [0u16; 16384];
-    let mut digest = [0u32; 20481];
+    let mut digest = [0u32; LONG];
     run_indexed(
         v,
         t,

@@ -5,7 +5,6 @@
 use volume::tables::Counts;
 use volume::tables::PIECE_WORDS;
 use volume::tables::Tables;
-use volume::tables::edge_first;
 use volume::tables::edge_pieces;
 use volume::tables::point_at;
 use volume::tables::road_first;
@@ -15,9 +14,14 @@ ghost use Prim.Native.Nat.{_+_, _^_, _≤_, _<_};
 ghost use lib.ListN.{length, getD};
 ghost use Rattle.volume.specs.Format.{volumeOf, Counted, Laid};
 ghost use Rattle.volume.specs.Sound.{Sound};
-ghost use Rattle.travel.specs.Digest.{steadyOf, piecesFrom, listed, digestOf};
+ghost use Rattle.travel.specs.Digest.{steadyOf, piecesFrom, listed, edgesAt, digestOf};
 
-const MOST_ROADS: usize = 4096;
+const EDGES_AT: usize = 4096;
+
+// How long the list of a digest is where a volume has at most 1,024 edges, and where it has as many as it may.
+pub const SHORT: usize = EDGES_AT + 1024 + 1;
+
+pub const LONG: usize = EDGES_AT + 16384 + 1;
 
 // The duration of road k where it has one point, else 0.
 fn steady(v: &[u8], t: Tables, k: usize) -> u64
@@ -50,16 +54,16 @@ fn list_roads(v: &[u8], t: Tables, roads: usize, digest: &mut [u32])
 fn list_edges(v: &[u8], t: Tables, edges: usize, digest: &mut [u32])
     requires { ⌜ Laid (now v) t ⌝ }
     requires { ⌜ Sound (volumeOf (now v)) ⌝ }
-    requires { ⌜ (edges ≡ volumeOf (now v) .edges) × (4096 + edges < length (now digest)) ⌝ }
-    ensures { λ r. ⌜ now (digest .exit) ≡ listed 4096 (piecesFrom (volumeOf (now (v .entry)))) (edges + 1) (now (digest .entry)) ⌝ }
+    requires { ⌜ (edges ≡ volumeOf (now v) .edges) × (edgesAt + edges < length (now digest)) ⌝ }
+    ensures { λ r. ⌜ now (digest .exit) ≡ listed edgesAt (piecesFrom (volumeOf (now (v .entry)))) (edges + 1) (now (digest .entry)) ⌝ }
 {
-    let base = t.pieces;
-    digest[MOST_ROADS] = base as u32;
+    let mut word = t.pieces;
+    digest[EDGES_AT] = word as u32;
     let mut e: usize = 0;
     while e < edges {
-        let end = edge_first(v, t, e) + edge_pieces(v, t, e);
+        word += PIECE_WORDS * edge_pieces(v, t, e);
         e += 1;
-        digest[MOST_ROADS + e] = (base + PIECE_WORDS * end) as u32;
+        digest[EDGES_AT + e] = word as u32;
     }
 }
 
@@ -68,7 +72,7 @@ pub fn make_digest(v: &[u8], t: Tables, c: Counts, digest: &mut [u32])
     requires { ⌜ Laid (now v) t ⌝ }
     requires { ⌜ Sound (volumeOf (now v)) ⌝ }
     requires { ⌜ Counted (volumeOf (now v)) c ⌝ }
-    requires { ⌜ 4096 + c .edges < length (now digest) ⌝ }
+    requires { ⌜ edgesAt + c .edges < length (now digest) ⌝ }
     ensures { λ r. ⌜ now (digest .exit) ≡ digestOf (volumeOf (now (v .entry))) (now (digest .entry)) ⌝ }
 {
     list_roads(v, t, c.roads, digest);
@@ -85,8 +89,8 @@ pub fn steady_at(digest: &[u32], k: usize) -> u64
 
 // What the digest has of edge e.
 pub fn pieces_at(digest: &[u32], e: usize) -> usize
-    requires { ⌜ 4096 + e < length (now digest) ⌝ }
-    ensures { λ r. ⌜ (r ≡ getD (now (digest .entry)) (4096 + e) 0) × (r < 2 ^ 32) ⌝ }
+    requires { ⌜ edgesAt + e < length (now digest) ⌝ }
+    ensures { λ r. ⌜ (r ≡ getD (now (digest .entry)) (edgesAt + e) 0) × (r < 2 ^ 32) ⌝ }
 {
-    digest[MOST_ROADS + e] as usize
+    digest[EDGES_AT + e] as usize
 }

@@ -1,12 +1,16 @@
 // Travel times: how long a road and an edge take at a departure, and the roads that an edge unfolds to. Answers to document 01,
 // "Travel time", and to its sentences on the unfolded path. What a volume holds is the crate `volume`'s.
+use crate::digest::LONG;
+use crate::digest::SHORT;
 use crate::digest::make_digest;
 use crate::edge::edge_duration;
+use crate::path::count_roads;
 use crate::road::road_duration;
 use volume::Opening;
 use volume::open;
 use volume::tables::Counts;
 use volume::tables::Tables;
+use volume::tables::edge_span;
 use volume::tables::tables_of;
 ghost use mathlib.Core.Path.{_≡_};
 ghost use Prim.Native.Nat.{_+_, _<_};
@@ -14,6 +18,7 @@ ghost use lib.ListN.{length};
 ghost use Rattle.volume.specs.Format.{volumeOf, Counted, Laid};
 ghost use Rattle.volume.specs.Sound.{Sound};
 ghost use Rattle.travel.specs.Network.{Enters, arrival};
+ghost use Rattle.travel.specs.Digest.{edgesAt};
 ghost use Rattle.travel.specs.Times.{roadTimeOf, edgeTimeOf};
 
 pub mod digest;
@@ -50,14 +55,15 @@ fn edge_digested(v: &[u8], t: Tables, c: Counts, e: usize, x: u64, digest: &mut 
     requires { ⌜ Sound (volumeOf (now v)) ⌝ }
     requires { ⌜ Counted (volumeOf (now v)) c ⌝ }
     requires { ⌜ Enters (volumeOf (now v)) e x ⌝ }
-    requires { ⌜ 4096 + c .edges < length (now digest) ⌝ }
+    requires { ⌜ edgesAt + c .edges < length (now digest) ⌝ }
     ensures { λ r. ⌜ x + r ≡ arrival (volumeOf (now (v .entry))) e x ⌝ }
 {
     make_digest(v, t, c, digest);
     edge_duration(v, digest, e, x)
 }
 
-// The same. Few edges get a short list, as in opening.
+// The same for any edge. A short one is unfolded where its pieces stand, since a digest of all roads and edges would take longer than
+// the walk itself; 16 edges are listed in about the time that the digest saves for each road. Few edges get a short list, as in opening.
 fn edge_lasts(v: &[u8], t: Tables, c: Counts, e: usize, x: u64) -> u64
     requires { ⌜ Laid (now v) t ⌝ }
     requires { ⌜ Sound (volumeOf (now v)) ⌝ }
@@ -65,11 +71,14 @@ fn edge_lasts(v: &[u8], t: Tables, c: Counts, e: usize, x: u64) -> u64
     requires { ⌜ Enters (volumeOf (now v)) e x ⌝ }
     ensures { λ r. ⌜ x + r ≡ arrival (volumeOf (now (v .entry))) e x ⌝ }
 {
+    if 16 * edge_span(v, t, e) <= c.edges {
+        return count_roads(v, t, e, x).duration;
+    }
     if c.edges <= 1024 {
-        let mut digest = [0u32; 5121];
+        let mut digest = [0u32; SHORT];
         return edge_digested(v, t, c, e, x, &mut digest);
     }
-    let mut digest = [0u32; 20481];
+    let mut digest = [0u32; LONG];
     edge_digested(v, t, c, e, x, &mut digest)
 }
 
