@@ -19,7 +19,7 @@ ghost use Prim.Native.Nat.{_+_, _*_, _^_, _≤_, _<_};
 ghost use lib.ListN.{length};
 ghost use Rattle.volume.specs.Format.{volumeOf, Counted, Few, Laid};
 ghost use Rattle.volume.specs.Index.{Linked};
-ghost use Rattle.travel.specs.Digest.{edgesAt, Digest};
+ghost use Rattle.travel.specs.Digest.{digestEdges, Digest};
 ghost use Rattle.volume.specs.Sound.{Sound};
 ghost use Rattle.settle.specs.Marked.{MarksBelow};
 ghost use Rattle.settle.specs.Outcome.{Ran};
@@ -130,7 +130,7 @@ fn run_indexed(
     requires { ⌜ Counted (volumeOf (now v)) c ⌝ }
     requires { ⌜ Few c ⌝ }
     requires { ⌜ Sound (volumeOf (now v)) ⌝ }
-    requires { ⌜ (c .edges ≤ length (now next)) × (edgesAt + c .edges < length (now digest)) ⌝ }
+    requires { ⌜ (c .edges ≤ length (now next)) × (digestEdges + c .edges < length (now digest)) ⌝ }
     requires { ⌜ Question (volumeOf (now v)) from to departure budget (now work) ⌝ }
     ensures { λ r. ⌜ Ran (volumeOf (now (v .entry))) from to departure budget (now (work .entry)) (now (work .exit)) r ⌝ }
 {

@@ -12,7 +12,7 @@ use lib.Seq.{getD-set-same, getD-set-other}
 use lib.Dec.{eqb}
 use borrow.Author.Tests.{eq-eqb, ne-eqb}
 use Rattle.block.specs.Choose.{choose, choose-yes, choose-no}
-use Rattle.volume.specs.Format.{Volume, volumeOf, countsOf, tablesOf, piecesAt, Few, Laid}
+use Rattle.volume.specs.Format.{pieceWords, Volume, volumeOf, countsOf, tablesOf, piecesAt, Few, Laid}
 use Rattle.volume.specs.Rules.{begins}
 use Rattle.volume.specs.Passes.{begins-next}
 use Rattle.volume.specs.Sound.{Sound}
@@ -56,7 +56,7 @@ steady-none vol k n = choose-no _ _ (ne-eqb _ _ n)
 
 -- the content word at which piece p stands
 abbrev pub pieceWord : Volume → ℕ → ℕ
-pieceWord vol p = piecesAt (vol .roads) (vol .points) (vol .edges) + 3 * p
+pieceWord vol p = piecesAt (vol .roads) (vol .points) (vol .edges) + pieceWords * p
 
 -- the content word at which the pieces of edge e begin: where those of the edge before end
 abbrev pub piecesFrom : Volume → ℕ → ℕ
@@ -69,7 +69,7 @@ pieces-start vol base b = omega arith
 
 -- those of the next edge n pieces later, where a sound edge has n
 pub pieces-next : {vol : Volume} → Sound vol → (e : ℕ) → e < vol .edges → (word n : ℕ) → word ≡ piecesFrom vol e → n ≡ vol .edge-pieces e
-    → word + 3 * n ≡ piecesFrom vol (e + 1)
+    → word + pieceWords * n ≡ piecesFrom vol (e + 1)
 pieces-next {vol} S e h word n w q =
     let next = begins-next (vol .edge-first) (vol .edge-pieces) e in
     let laid = S .edge e h .laid in
@@ -77,7 +77,7 @@ pieces-next {vol} S e h word n w q =
 
 -- they all stand in the table
 pub pieces-inside : {vol : Volume} → Sound vol → (e : ℕ) → e < vol .edges
-    → piecesFrom vol (e + 1) ≤ piecesAt (vol .roads) (vol .points) (vol .edges) + 3 * vol .pieces
+    → piecesFrom vol (e + 1) ≤ piecesAt (vol .roads) (vol .points) (vol .edges) + pieceWords * vol .pieces
 pieces-inside {vol} S e h =
     let next = begins-next (vol .edge-first) (vol .edge-pieces) e in
     let inside = S .edge e h .inside in
@@ -89,18 +89,18 @@ listed o f zero l = l
 listed o f (suc n) l = set (listed o f n l) (o + n) (f n)
 
 -- the place at which the edges stand: behind as many as a volume may have roads
-abbrev pub edgesAt : ℕ
-edgesAt = 4096
+abbrev pub digestEdges : ℕ
+digestEdges = 4096
 
--- the list with the digest: the roads, and from `edgesAt` on the edges and the end of the last
+-- the list with the digest: the roads, and from `digestEdges` on the edges and the end of the last
 abbrev pub digestOf : Volume → List ℕ → List ℕ
-digestOf vol l = listed edgesAt (piecesFrom vol) (vol .edges + 1) (listed 0 (steadyOf vol) (vol .roads) l)
+digestOf vol l = listed digestEdges (piecesFrom vol) (vol .edges + 1) (listed 0 (steadyOf vol) (vol .roads) l)
 
 -- the list holds the digest
 pub record Digest (vol : Volume) (l : List ℕ) : Type 0 where
-  pub room : edgesAt + vol .edges < length l
+  pub room : digestEdges + vol .edges < length l
   pub roads : (k : ℕ) → k < vol .roads → getD l k 0 ≡ steadyOf vol k
-  pub edges : (e : ℕ) → e ≤ vol .edges → getD l (edgesAt + e) 0 ≡ piecesFrom vol e
+  pub edges : (e : ℕ) → e ≤ vol .edges → getD l (digestEdges + e) 0 ≡ piecesFrom vol e
 
 -- with no place written, and one more
 pub listed-none : (o : ℕ) (f : ℕ → ℕ) (l : List ℕ) → l ≡ listed o f 0 l
@@ -141,15 +141,15 @@ listed-before o f (suc n) l j h =
     ∙ listed-before o f n l j h
 
 -- the list with the digest holds it
-pub digest-made : (vol : Volume) (l : List ℕ) → vol .roads ≤ edgesAt → edgesAt + vol .edges < length l → Digest vol (digestOf vol l)
+pub digest-made : (vol : Volume) (l : List ℕ) → vol .roads ≤ digestEdges → digestEdges + vol .edges < length l → Digest vol (digestOf vol l)
 digest-made vol l few room = record {
   room = omega (arith, long, edges-long);
   roads = λ k h.
       let z : k ≡ 0 + k = omega arith in
-      listed-before edgesAt (piecesFrom vol) (vol .edges + 1) one k (omega arith)
+      listed-before digestEdges (piecesFrom vol) (vol .edges + 1) one k (omega arith)
       ∙ ap (λ (j : ℕ). getD one j 0) z
       ∙ listed-at 0 (steadyOf vol) (vol .roads) l k h (omega arith);
-  edges = λ e h. listed-at edgesAt (piecesFrom vol) (vol .edges + 1) one e (omega arith) (omega (arith, long));
+  edges = λ e h. listed-at digestEdges (piecesFrom vol) (vol .edges + 1) one e (omega arith) (omega (arith, long));
 }
   where
     one : List ℕ
@@ -159,7 +159,7 @@ digest-made vol l few room = record {
     long = listed-length 0 (steadyOf vol) (vol .roads) l
 
     edges-long : length (digestOf vol l) ≡ length one
-    edges-long = listed-length edgesAt (piecesFrom vol) (vol .edges + 1) one
+    edges-long = listed-length digestEdges (piecesFrom vol) (vol .edges + 1) one
 
 -- the pieces of edge e stand from content word `at` up to content word `end`
 pub record Stands (vol : Volume) (e at end : ℕ) : Type 0 where
@@ -168,7 +168,7 @@ pub record Stands (vol : Volume) (e at end : ℕ) : Type 0 where
 
 -- a sound edge's pieces begin where those of the edge before end, so two neighbours in the digest bound them
 pub stands : {vol : Volume} {l : List ℕ} → Sound vol → Digest vol l → (e : ℕ) → e < vol .edges → (at end : ℕ)
-    → at ≡ getD l (edgesAt + e) 0 → end ≡ getD l (edgesAt + (e + 1)) 0 → Stands vol e at end
+    → at ≡ getD l (digestEdges + e) 0 → end ≡ getD l (digestEdges + (e + 1)) 0 → Stands vol e at end
 stands {vol} {l} S D e h at end a b = record {
   begin = a ∙ D .edges e (omega arith) ∙ ap (pieceWord vol) (sym (S .edge e h .laid));
   end-is = b ∙ D .edges (e + 1) (omega arith) ∙ ap (pieceWord vol) (begins-next (vol .edge-first) (vol .edge-pieces) e);

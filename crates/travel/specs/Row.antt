@@ -1,16 +1,16 @@
 -- A row of content words at equal distances, as the search for what is in force reads it: the seconds of a road's points, or the starts
 -- of an edge's pieces. Both rows rise on a sound volume.
-use Prim.Native.Nat.{ℕ, _+_, _-_, _*_, _%_, _≤_, _<_}
+use Prim.Native.Nat.{ℕ, _+_, _-_, _*_, _/_, _%_, _≤_, _<_}
 use mathlib.Core.Path.{_≡_, ap, _∙_, fun-ext}
 use mathlib.Core.List.{List}
 use native.Mathlib.Omega.{arith}
-use native.Mathlib.Nat.{mul-le-mul-left}
+use native.Mathlib.Nat.{mul-le-mul-left, mul-add}
 use Rattle.block.specs.Word.{contentAt, Holds}
-use Rattle.volume.specs.Format.{volumeOf, Laid}
+use Rattle.volume.specs.Format.{pointWords, pieceWords, volumeOf, Laid}
 use Rattle.volume.specs.Rules.{start}
 use Rattle.volume.specs.Sound.{Sound}
 use Rattle.volume.specs.declared.tables.Tables.{Tables}
-use Rattle.travel.specs.Last.{lastLe, Rises}
+use Rattle.travel.specs.Last.{lastLe, Rises, Within, within-all, upper-half, lower-half, within-one}
 use Rattle.travel.specs.Network.{pieceAt}
 use Rattle.travel.specs.PointsFrom.{secondFrom, OfRoad, points-from}
 
@@ -31,14 +31,46 @@ row-held v base stride n x i r h =
     let a = mul-le-mul-left {m = i} {n = n - 1} stride (omega arith) in
     omega (arith, r .held)
 
+-- the search for the last that is at most x has come down to `left` records, of which the first stands at word w
+pub record Left (v : List ℕ) (base stride n x w left : ℕ) : Type 0 where
+  pub lo : ℕ
+  pub at : w ≡ base + stride * lo
+  pub within : Within (rowAt v base stride) n x lo left
+
+module _ {v : List ℕ} {base stride n x : ℕ} (R : Row v base stride n x) where
+  pub left-all : Left v base stride n x base n
+  left-all = record { lo = 0; at = omega arith; within = within-all _ n x (R .some) (R .first) }
+
+  module _ {w left : ℕ} (L : Left v base stride n x w left) where
+    -- the record in the middle
+    middle : w + stride * (left / 2) ≡ base + stride * (L .lo + left / 2)
+    middle = let d = mul-add stride (L .lo) (left / 2) in omega (arith, d, L .at)
+
+    pub middle-held : 1 < left → Holds v (w + stride * (left / 2))
+    middle-held more = rw middle (row-held v base stride n x (L .lo + left / 2) R (omega (arith, L .within .inside)))
+
+    pub left-upper : 1 < left → contentAt v (w + stride * (left / 2)) ≤ x
+        → Left v base stride n x (w + stride * (left / 2)) (left - left / 2)
+    left-upper more k =
+        let q = ap (contentAt v) middle in
+        record { lo = L .lo + left / 2; at = middle; within = upper-half _ n x (L .lo) left (L .within) more (omega (arith, q)) }
+
+    pub left-lower : 1 < left → x < contentAt v (w + stride * (left / 2)) → Left v base stride n x w (left - left / 2)
+    left-lower more k =
+        let q = ap (contentAt v) middle in
+        record { lo = L .lo; at = L .at; within = lower-half _ n x (L .lo) left (L .within) more (R .rise) (omega (arith, q)) }
+
+    pub left-one : left ≤ 1 → w ≡ base + stride * lastLe (rowAt v base stride) n x
+    left-one one = L .at ∙ ap (λ (i : ℕ). base + stride * i) (within-one _ n x (L .lo) left (L .within) one)
+
 module _ {v : List ℕ} {t : Tables} (L : Laid v t) where
   -- the seconds of road k's points
-  module _ {k first n : ℕ} (R : OfRoad (volumeOf v) k first n) (base : ℕ) (b : base ≡ t .points + 2 * first) where
-    seconds : (i : ℕ) → rowAt v base 2 i ≡ secondFrom (volumeOf v) first i
+  module _ {k first n : ℕ} (R : OfRoad (volumeOf v) k first n) (base : ℕ) (b : base ≡ t .points + pointWords * first) where
+    seconds : (i : ℕ) → rowAt v base pointWords i ≡ secondFrom (volumeOf v) first i
     unfolding volumeOf
     seconds i = ap (contentAt v) (omega (arith, L .points))
 
-    pub seconds-row : (y : ℕ) → volumeOf v .point-second first ≤ y → Row v base 2 n y
+    pub seconds-row : (y : ℕ) → volumeOf v .point-second first ≤ y → Row v base pointWords n y
     seconds-row y l =
         let z : volumeOf v .point-second first ≡ secondFrom (volumeOf v) first 0 = ap (volumeOf v .point-second) (omega arith) in
         let Q = points-from R in
@@ -51,17 +83,17 @@ module _ {v : List ℕ} {t : Tables} (L : Laid v t) where
         }
 
     -- the last of them at or before y is the point in force
-    pub seconds-last : (y i : ℕ) → i ≡ lastLe (rowAt v base 2) n y → i ≡ lastLe (secondFrom (volumeOf v) first) n y
-    seconds-last y i e = e ∙ ap (λ (key : ℕ → ℕ). lastLe key n y) (fun-ext seconds)
+    pub seconds-last : (y w : ℕ) → w ≡ base + pointWords * lastLe (rowAt v base pointWords) n y → (w - base) / pointWords ≡ lastLe (secondFrom (volumeOf v) first) n y
+    seconds-last y w e = let q = ap (λ (key : ℕ → ℕ). lastLe key n y) (fun-ext seconds) in omega (arith, e, q)
 
   -- the starts of edge e's pieces
   module _ (S : Sound (volumeOf v)) (e first n base : ℕ) (h : e < volumeOf v .edges) (f : first ≡ volumeOf v .edge-first e)
-      (c : n ≡ volumeOf v .edge-pieces e) (b : base ≡ t .pieces + 3 * first) where
-    starts : (i : ℕ) → rowAt v base 3 i ≡ start (volumeOf v) e i
+      (c : n ≡ volumeOf v .edge-pieces e) (b : base ≡ t .pieces + pieceWords * first) where
+    starts : (i : ℕ) → rowAt v base pieceWords i ≡ start (volumeOf v) e i
     unfolding volumeOf
     starts i = ap (contentAt v) (omega (arith, L .pieces))
 
-    pub starts-row : (y : ℕ) → Row v base 3 n y
+    pub starts-row : (y : ℕ) → Row v base pieceWords n y
     starts-row y =
         let E = S .edge e h in
         let q : 0 < n = omega (arith, E .some) in
@@ -73,7 +105,7 @@ module _ {v : List ℕ} {t : Tables} (L : Laid v t) where
         }
 
     -- the last of them at or before y, the second of the period at x, is the piece in force
-    pub starts-last : (x y i : ℕ) → y ≡ x % volumeOf v .period → i ≡ lastLe (rowAt v base 3) n y
+    pub starts-last : (x y i : ℕ) → y ≡ x % volumeOf v .period → i ≡ lastLe (rowAt v base pieceWords) n y
         → first + i ≡ pieceAt (volumeOf v) e (x % volumeOf v .period)
     unfolding pieceAt
     starts-last x y i m q = rw (f, q, fun-ext starts, c, m)

@@ -14,14 +14,14 @@ ghost use Prim.Native.Nat.{_+_, _^_, _≤_, _<_};
 ghost use lib.ListN.{length, getD};
 ghost use Rattle.volume.specs.Format.{volumeOf, Counted, Laid};
 ghost use Rattle.volume.specs.Sound.{Sound};
-ghost use Rattle.travel.specs.Digest.{steadyOf, piecesFrom, listed, edgesAt, digestOf};
+ghost use Rattle.travel.specs.Digest.{steadyOf, piecesFrom, listed, digestEdges, digestOf};
 
-const EDGES_AT: usize = 4096;
+const DIGEST_EDGES: usize = 4096;
 
 // How long the list of a digest is where a volume has at most 1,024 edges, and where it has as many as it may.
-pub const SHORT: usize = EDGES_AT + 1024 + 1;
+pub const SHORT: usize = DIGEST_EDGES + 1024 + 1;
 
-pub const LONG: usize = EDGES_AT + 16384 + 1;
+pub const LONG: usize = DIGEST_EDGES + 16384 + 1;
 
 // The duration of road k where it has one point, else 0.
 fn steady(v: &[u8], t: Tables, k: usize) -> u64
@@ -54,16 +54,16 @@ fn list_roads(v: &[u8], t: Tables, roads: usize, digest: &mut [u32])
 fn list_edges(v: &[u8], t: Tables, edges: usize, digest: &mut [u32])
     requires { ⌜ Laid (now v) t ⌝ }
     requires { ⌜ Sound (volumeOf (now v)) ⌝ }
-    requires { ⌜ (edges ≡ volumeOf (now v) .edges) × (edgesAt + edges < length (now digest)) ⌝ }
-    ensures { λ r. ⌜ now (digest .exit) ≡ listed edgesAt (piecesFrom (volumeOf (now (v .entry)))) (edges + 1) (now (digest .entry)) ⌝ }
+    requires { ⌜ (edges ≡ volumeOf (now v) .edges) × (digestEdges + edges < length (now digest)) ⌝ }
+    ensures { λ r. ⌜ now (digest .exit) ≡ listed digestEdges (piecesFrom (volumeOf (now (v .entry)))) (edges + 1) (now (digest .entry)) ⌝ }
 {
     let mut word = t.pieces;
-    digest[EDGES_AT] = word as u32;
+    digest[DIGEST_EDGES] = word as u32;
     let mut e: usize = 0;
     while e < edges {
         word += PIECE_WORDS * edge_pieces(v, t, e);
         e += 1;
-        digest[EDGES_AT + e] = word as u32;
+        digest[DIGEST_EDGES + e] = word as u32;
     }
 }
 
@@ -72,7 +72,7 @@ pub fn make_digest(v: &[u8], t: Tables, c: Counts, digest: &mut [u32])
     requires { ⌜ Laid (now v) t ⌝ }
     requires { ⌜ Sound (volumeOf (now v)) ⌝ }
     requires { ⌜ Counted (volumeOf (now v)) c ⌝ }
-    requires { ⌜ edgesAt + c .edges < length (now digest) ⌝ }
+    requires { ⌜ digestEdges + c .edges < length (now digest) ⌝ }
     ensures { λ r. ⌜ now (digest .exit) ≡ digestOf (volumeOf (now (v .entry))) (now (digest .entry)) ⌝ }
 {
     list_roads(v, t, c.roads, digest);
@@ -89,8 +89,8 @@ pub fn steady_at(digest: &[u32], k: usize) -> u64
 
 // What the digest has of edge e.
 pub fn pieces_at(digest: &[u32], e: usize) -> usize
-    requires { ⌜ edgesAt + e < length (now digest) ⌝ }
-    ensures { λ r. ⌜ (r ≡ getD (now (digest .entry)) (edgesAt + e) 0) × (r < 2 ^ 32) ⌝ }
+    requires { ⌜ digestEdges + e < length (now digest) ⌝ }
+    ensures { λ r. ⌜ (r ≡ getD (now (digest .entry)) (digestEdges + e) 0) × (r < 2 ^ 32) ⌝ }
 {
-    digest[EDGES_AT + e] as usize
+    digest[DIGEST_EDGES + e] as usize
 }

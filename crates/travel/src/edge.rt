@@ -20,7 +20,7 @@ ghost use Rattle.travel.specs.Digest.{LaidOut, pieceWord, Stands, Digest
 
 // The content word of the piece in force at x, of those of edge e, which stand from word `at` up to word `end`. Most edges have one
 // piece, and need no search.
-fn word_in_force(v: &[u8], e: usize, at: usize, end: usize, x: u64) -> usize
+pub fn word_in_force(v: &[u8], e: usize, at: usize, end: usize, x: u64) -> usize
     requires { ⌜ LaidOut (now v) ⌝ }
     requires { ⌜ Sound (volumeOf (now v)) ⌝ }
     requires { ⌜ e < volumeOf (now v) .edges ⌝ }
@@ -30,7 +30,13 @@ fn word_in_force(v: &[u8], e: usize, at: usize, end: usize, x: u64) -> usize
     if at + PIECE_WORDS == end {
         return at;
     }
-    at + PIECE_WORDS * last_at(v, at, PIECE_WORDS, (end - at) / PIECE_WORDS, x % PERIOD)
+    last_at(
+        v,
+        at,
+        PIECE_WORDS,
+        (end - at) / PIECE_WORDS,
+        (x % PERIOD) as u32,
+    )
 }
 
 // The duration of road k for who enters it at x.

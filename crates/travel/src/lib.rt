@@ -18,7 +18,7 @@ ghost use lib.ListN.{length};
 ghost use Rattle.volume.specs.Format.{volumeOf, Counted, Laid};
 ghost use Rattle.volume.specs.Sound.{Sound};
 ghost use Rattle.travel.specs.Network.{Enters, arrival};
-ghost use Rattle.travel.specs.Digest.{edgesAt};
+ghost use Rattle.travel.specs.Digest.{digestEdges};
 ghost use Rattle.travel.specs.Times.{roadTimeOf, edgeTimeOf};
 
 pub mod digest;
@@ -55,7 +55,7 @@ fn edge_digested(v: &[u8], t: Tables, c: Counts, e: usize, x: u64, digest: &mut 
     requires { ⌜ Sound (volumeOf (now v)) ⌝ }
     requires { ⌜ Counted (volumeOf (now v)) c ⌝ }
     requires { ⌜ Enters (volumeOf (now v)) e x ⌝ }
-    requires { ⌜ edgesAt + c .edges < length (now digest) ⌝ }
+    requires { ⌜ digestEdges + c .edges < length (now digest) ⌝ }
     ensures { λ r. ⌜ x + r ≡ arrival (volumeOf (now (v .entry))) e x ⌝ }
 {
     make_digest(v, t, c, digest);

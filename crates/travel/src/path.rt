@@ -1,21 +1,22 @@
 // The roads of an edge at a departure: document 01, "The settling rule", on the path. An edge is unfolded by its piece in force, the
 // left half first, and the right half's roads are written directly after it.
-use crate::last::last_at;
+use crate::edge::word_in_force;
 use crate::road::road_duration;
+use block::content;
 use volume::tables::EMPTY;
-use volume::tables::PERIOD;
+use volume::tables::LEFT;
 use volume::tables::PIECE_WORDS;
+use volume::tables::RIGHT;
 use volume::tables::Tables;
 use volume::tables::edge_first;
 use volume::tables::edge_pieces;
-use volume::tables::piece_left;
-use volume::tables::piece_right;
 ghost use mathlib.Core.Path.{_≡_};
 ghost use Prim.Native.Nat.{_%_, _≤_, _<_};
 ghost use lib.ListN.{length};
 ghost use Rattle.volume.specs.Format.{volumeOf, Laid};
 ghost use Rattle.volume.specs.Sound.{Sound};
 ghost use Rattle.travel.specs.Network.{pieceAt, Enters, roadsOf};
+ghost use Rattle.travel.specs.Digest.{pieceWord};
 ghost use Rattle.travel.specs.Unfolds.{Unfolds};
 ghost use Rattle.travel.specs.Written.{withRoads};
 
@@ -26,17 +27,18 @@ pub struct Unfolded {
     pub duration: u64,
 }
 
-// The number of edge e's piece in force at x. Only the edges of a path are unfolded, so their pieces are read where they stand.
-fn piece_in_force(v: &[u8], t: Tables, e: usize, x: u64) -> usize
+// The content word of edge e's piece in force at x. Where the pieces stand is read from the sealed words: only short edges and those of
+// a path are unfolded, too few for a digest.
+fn word_of(v: &[u8], t: Tables, e: usize, x: u64) -> usize
     requires { ⌜ Laid (now v) t ⌝ }
     requires { ⌜ Sound (volumeOf (now v)) ⌝ }
     requires { ⌜ e < volumeOf (now v) .edges ⌝ }
-    ensures { λ r. ⌜ r ≡ pieceAt (volumeOf (now (v .entry))) e (x % volumeOf (now (v .entry)) .period) ⌝ }
+    ensures { λ r. ⌜ r ≡ pieceWord (volumeOf (now (v .entry))) (pieceAt (volumeOf (now (v .entry))) e (x % volumeOf (now (v .entry)) .period)) ⌝ }
 {
-    let first = edge_first(v, t, e);
-    let n = edge_pieces(v, t, e);
     let base = t.pieces;
-    first + last_at(v, base + PIECE_WORDS * first, PIECE_WORDS, n, x % PERIOD)
+    let at = base + PIECE_WORDS * edge_first(v, t, e);
+    let end = at + PIECE_WORDS * edge_pieces(v, t, e);
+    word_in_force(v, e, at, end, x)
 }
 
 // The number of roads of edge e for who enters it at x, and its duration.
@@ -46,9 +48,9 @@ pub fn count_roads(v: &[u8], t: Tables, e: usize, x: u64) -> Unfolded
     requires { ⌜ Enters (volumeOf (now v)) e x ⌝ }
     ensures { λ r. ⌜ Unfolds (volumeOf (now (v .entry))) e x r ⌝ }
 {
-    let p = piece_in_force(v, t, e, x);
-    let left = piece_left(v, t, p);
-    let right = piece_right(v, t, p);
+    let w = word_of(v, t, e, x);
+    let left = content(v, w + LEFT) as usize;
+    let right = content(v, w + RIGHT) as usize;
     if right == EMPTY {
         let duration = road_duration(v, t, left, x);
         return Unfolded { roads: 1, duration };
@@ -69,9 +71,9 @@ pub fn unfold_edge(v: &[u8], t: Tables, e: usize, x: u64, path: &mut [u32]) -> U
     ensures { λ r. ⌜ Unfolds (volumeOf (now (v .entry))) e x r ⌝ }
     ensures { λ r. ⌜ now (path .exit) ≡ withRoads (roadsOf (volumeOf (now (v .entry))) e x) (now (path .entry)) ⌝ }
 {
-    let p = piece_in_force(v, t, e, x);
-    let left = piece_left(v, t, p);
-    let right = piece_right(v, t, p);
+    let w = word_of(v, t, e, x);
+    let left = content(v, w + LEFT) as usize;
+    let right = content(v, w + RIGHT) as usize;
     if right == EMPTY {
         path[0] = left as u32;
         let duration = road_duration(v, t, left, x);

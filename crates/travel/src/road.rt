@@ -63,6 +63,7 @@ pub fn road_duration(v: &[u8], t: Tables, k: usize, x: u64) -> u64
         return from_point(v, t, first, n, n - 1, y + PERIOD);
     }
     let base = t.points;
-    let i = last_at(v, base + POINT_WORDS * first, POINT_WORDS, n, y);
-    from_point(v, t, first, n, i, y)
+    let begin = base + POINT_WORDS * first;
+    let w = last_at(v, begin, POINT_WORDS, n, y as u32);
+    from_point(v, t, first, n, (w - begin) / POINT_WORDS, y)
 }

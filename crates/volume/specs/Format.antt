@@ -38,23 +38,37 @@ pub record Volume : Type 0 where
   pub piece-left : ℕ → ℕ
   pub piece-right : ℕ → ℕ
 
--- where each table begins, as a content word: after a head of 6 words, roads of 4, points of 2, edges of 5, pieces of 3
+-- how many content words a road, a point, an edge and a piece have
+
+abbrev pub roadWords : ℕ
+roadWords = 4
+
+abbrev pub pointWords : ℕ
+pointWords = 2
+
+abbrev pub edgeWords : ℕ
+edgeWords = 5
+
+abbrev pub pieceWords : ℕ
+pieceWords = 3
+
+-- where each table begins, as a content word: after a head of 6 words
 
 abbrev pub roadsAt : ℕ
 roadsAt = 6
 
 abbrev pub pointsAt : ℕ → ℕ
-pointsAt roads = roadsAt + 4 * roads
+pointsAt roads = roadsAt + roadWords * roads
 
 abbrev pub edgesAt : ℕ → ℕ → ℕ
-edgesAt roads points = pointsAt roads + 2 * points
+edgesAt roads points = pointsAt roads + pointWords * points
 
 abbrev pub piecesAt : ℕ → ℕ → ℕ → ℕ
-piecesAt roads points edges = edgesAt roads points + 5 * edges
+piecesAt roads points edges = edgesAt roads points + edgeWords * edges
 
 -- how many content words there are in all, by the counts
 abbrev pub wordsIn : Counts → ℕ
-wordsIn c = piecesAt (c .roads) (c .points) (c .edges) + 3 * c .pieces
+wordsIn c = piecesAt (c .roads) (c .points) (c .edges) + pieceWords * c .pieces
 
 abbrev pub tablesOf : Counts → Tables
 tablesOf c = record {
@@ -87,20 +101,20 @@ volumeOf v =
       points = word 3;
       edges = word 4;
       pieces = word 5;
-      road-from = λ k. word (roadsAt + 4 * k);
-      road-to = λ k. word (roadsAt + 4 * k + 1);
-      road-first = λ k. word (roadsAt + 4 * k + 2);
-      road-points = λ k. word (roadsAt + 4 * k + 3);
-      point-second = λ i. word (pointsFrom + 2 * i);
-      point-duration = λ i. word (pointsFrom + 2 * i + 1);
-      edge-from = λ e. word (edgesFrom + 5 * e);
-      edge-to = λ e. word (edgesFrom + 5 * e + 1);
-      edge-first = λ e. word (edgesFrom + 5 * e + 2);
-      edge-pieces = λ e. word (edgesFrom + 5 * e + 3);
-      edge-span = λ e. word (edgesFrom + 5 * e + 4);
-      piece-start = λ p. word (piecesFrom + 3 * p);
-      piece-left = λ p. word (piecesFrom + 3 * p + 1);
-      piece-right = λ p. word (piecesFrom + 3 * p + 2);
+      road-from = λ k. word (roadsAt + roadWords * k);
+      road-to = λ k. word (roadsAt + roadWords * k + 1);
+      road-first = λ k. word (roadsAt + roadWords * k + 2);
+      road-points = λ k. word (roadsAt + roadWords * k + 3);
+      point-second = λ i. word (pointsFrom + pointWords * i);
+      point-duration = λ i. word (pointsFrom + pointWords * i + 1);
+      edge-from = λ e. word (edgesFrom + edgeWords * e);
+      edge-to = λ e. word (edgesFrom + edgeWords * e + 1);
+      edge-first = λ e. word (edgesFrom + edgeWords * e + 2);
+      edge-pieces = λ e. word (edgesFrom + edgeWords * e + 3);
+      edge-span = λ e. word (edgesFrom + edgeWords * e + 4);
+      piece-start = λ p. word (piecesFrom + pieceWords * p);
+      piece-left = λ p. word (piecesFrom + pieceWords * p + 1);
+      piece-right = λ p. word (piecesFrom + pieceWords * p + 2);
     }
 
 -- N, R, P, E and Q

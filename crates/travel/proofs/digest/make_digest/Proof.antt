@@ -3,7 +3,7 @@ use mathlib.Core.List.{List}
 use mathlib.Core.Path.{_∙_, ap, ap₂}
 use native.Mathlib.Omega.{arith}
 use Rattle.volume.specs.Format.{volumeOf}
-use Rattle.travel.specs.Digest.{steadyOf, piecesFrom, listed, edgesAt}
+use Rattle.travel.specs.Digest.{steadyOf, piecesFrom, listed, digestEdges}
 use borrow.Author.Needs.{needs}
 use Rattle.travel.proofs.digest.make_digest.Statement.{statement}
 use Rattle.travel.proofs.digest.make_digest.Tie as tie
@@ -29,7 +29,7 @@ returns c =
     let vol = volumeOf (s .args .v .now) in
     let K = s .pre .1 .1 .0 in
     let roads = r .list-roads .ensures ∙ ap (λ (n : ℕ). listed 0 (steadyOf vol) n (s .args .digest .now)) (K .roads) in
-    e .list-edges .ensures ∙ ap₂ (λ (n : ℕ) (l : List ℕ). listed edgesAt (piecesFrom vol) (n + 1) l) (K .edges) roads
+    e .list-edges .ensures ∙ ap₂ (λ (n : ℕ) (l : List ℕ). listed digestEdges (piecesFrom vol) (n + 1) l) (K .edges) roads
 
 pub make-digest-spec : {M : Type 1} → statement M
 make-digest-spec =

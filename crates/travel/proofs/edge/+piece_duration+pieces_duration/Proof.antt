@@ -4,8 +4,8 @@ use native.Mathlib.Omega.{arith}
 use Rattle.volume.specs.Format.{volumeOf}
 use Rattle.travel.specs.Network.{pieceAt}
 use Rattle.travel.specs.Digest.{stands}
-use Rattle.travel.specs.PieceWords.{force-word, held-at, left-at, right-at}
-use Rattle.travel.specs.Halves.{InHand, edge-by-piece, force-has, force-in, road-there, road-arrives, halves, halves-arrive}
+use Rattle.travel.specs.PieceWords.{force-held, force-read}
+use Rattle.travel.specs.Halves.{InHand, edge-by-piece, road-there, road-arrives, halves, halves-arrive}
 use native.Mathlib.Nat.{le-refl}
 use borrow.Author.Needs.{needs}
 use borrow.Fn.Kinds.{In}
@@ -76,26 +76,17 @@ in-hand : (t : ℕ) (c : piece-duration-lts.After-content2 (piece-calls t) (piec
     (c .before .content .result) (c .content2 .result)
 in-hand t c =
     let s = c .before .before .before .before in
-    let S = s .pre .1 .1 .0 in
-    let E = s .pre .1 .1 .1 .1 .0 in
-    let w = s .pre .1 .1 .1 .1 .1 in
-    record {
-      sound = S;
-      enters = E;
-      has = force-has _ S (s .args .e) (s .args .x) _ (E .there) refl;
-      left = left-at (s .pre .1 .0) _ _ w _ (c .before .content .ensures);
-      right = right-at (s .pre .1 .0) _ _ w _ (c .content2 .ensures);
-    }
+    force-read (s .pre .1 .0) (s .pre .1 .1 .0) (s .args .e) (s .args .x) _ (s .pre .1 .1 .1 .1 .0) (s .pre .1 .1 .1 .1 .1) _ _ (c .before .content .ensures) (c .content2 .ensures) .hand
 
 piece-duration-add-content : (t : ℕ) → piece-duration-lts.Need-add-content (piece-calls t) (piece-duration-at t) piece-duration.Post
 piece-duration-add-content t c =
     let s = c .before .before in
-    omega (arith, s .pre .1 .1 .1 .1 .1, force-word (s .pre .1 .0) (s .pre .1 .1 .0) (s .args .e) (s .args .x) (s .pre .1 .1 .1 .1 .0 .there))
+    omega (arith, force-held (s .pre .1 .0) (s .pre .1 .1 .0) (s .args .e) (s .args .x) _ (s .pre .1 .1 .1 .1 .0) (s .pre .1 .1 .1 .1 .1) 1 (omega arith))
 
 piece-duration-content-requires : (t : ℕ) → piece-duration-lts.Need-content-requires (piece-calls t) (piece-duration-at t) piece-duration.Post
 piece-duration-content-requires t c κs =
     let s = c .before .before in
-    held-at (s .pre .1 .0) _ _ (s .pre .1 .1 .1 .1 .1) 1 (omega arith) (force-in _ (s .pre .1 .1 .0) (s .args .e) (s .args .x) _ (s .pre .1 .1 .1 .1 .0 .there) refl)
+    force-held (s .pre .1 .0) (s .pre .1 .1 .0) (s .args .e) (s .args .x) _ (s .pre .1 .1 .1 .1 .0) (s .pre .1 .1 .1 .1 .1) 1 (omega arith)
 
 piece-duration-cast-left : (t : ℕ) → piece-duration-lts.Need-cast-left (piece-calls t) (piece-duration-at t) piece-duration.Post
 piece-duration-cast-left t c = search needs
@@ -103,12 +94,12 @@ piece-duration-cast-left t c = search needs
 piece-duration-add-content-2 : (t : ℕ) → piece-duration-lts.Need-add-content-2 (piece-calls t) (piece-duration-at t) piece-duration.Post
 piece-duration-add-content-2 t c =
     let s = c .before .before .before in
-    omega (arith, s .pre .1 .1 .1 .1 .1, force-word (s .pre .1 .0) (s .pre .1 .1 .0) (s .args .e) (s .args .x) (s .pre .1 .1 .1 .1 .0 .there))
+    omega (arith, force-held (s .pre .1 .0) (s .pre .1 .1 .0) (s .args .e) (s .args .x) _ (s .pre .1 .1 .1 .1 .0) (s .pre .1 .1 .1 .1 .1) 2 (omega arith))
 
 piece-duration-content-requires-2 : (t : ℕ) → piece-duration-lts.Need-content-requires-2 (piece-calls t) (piece-duration-at t) piece-duration.Post
 piece-duration-content-requires-2 t c κs =
     let s = c .before .before .before in
-    held-at (s .pre .1 .0) _ _ (s .pre .1 .1 .1 .1 .1) 2 (omega arith) (force-in _ (s .pre .1 .1 .0) (s .args .e) (s .args .x) _ (s .pre .1 .1 .1 .1 .0 .there) refl)
+    force-held (s .pre .1 .0) (s .pre .1 .1 .0) (s .args .e) (s .args .x) _ (s .pre .1 .1 .1 .1 .0) (s .pre .1 .1 .1 .1 .1) 2 (omega arith)
 
 piece-duration-cast-right : (t : ℕ) → piece-duration-lts.Need-cast-right (piece-calls t) (piece-duration-at t) piece-duration.Post
 piece-duration-cast-right t c = search needs

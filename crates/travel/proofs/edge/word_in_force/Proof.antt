@@ -1,7 +1,8 @@
 use native.Mathlib.Omega.{arith}
 use Rattle.volume.specs.Format.{period-is}
 use Rattle.travel.specs.Network.{same-second}
-use Rattle.travel.specs.PieceWords.{force-word, words-few, words-some, one-word, words-row, word-last}
+use Rattle.travel.specs.PieceWords.{words-few, words-some, one-word, words-row, word-last}
+use borrow.Author.Needs.{needs}
 use Rattle.travel.proofs.edge.word_in_force.Statement.{statement}
 use Rattle.travel.proofs.edge.word_in_force.Tie as tie
 
@@ -22,26 +23,13 @@ sub-last-at c =
     let s = c .before .before in
     omega (arith, words-some (s .pre .0) (s .pre .1 .0) (s .args .e) _ _ (s .pre .1 .1 .0) (s .pre .1 .1 .1))
 
+cast-last-at : tie.Need-cast-last-at
+cast-last-at c = search needs
+
 last-at-requires : tie.Need-last-at-requires
 last-at-requires c κs =
     let s = c .before .before in
     words-row (s .pre .0) (s .pre .1 .0) (s .args .e) _ _ (s .pre .1 .1 .0) (s .pre .1 .1 .1) _
-
-mul-result : tie.Need-mul-result
-mul-result c =
-    let s = c .before .before .before in
-    let S = s .pre .1 .0 in
-    let h = s .pre .1 .1 .0 in
-    let w = word-last (s .pre .0) S (s .args .e) _ _ h (s .pre .1 .1 .1) (s .args .x) _ _ (same-second (s .args .x) (period-is (s .args .v .now))) (c .last-at .ensures) in
-    omega (arith, w, force-word (s .pre .0) S (s .args .e) (s .args .x) h)
-
-add-result : tie.Need-add-result
-add-result c =
-    let s = c .before .before .before in
-    let S = s .pre .1 .0 in
-    let h = s .pre .1 .1 .0 in
-    let w = word-last (s .pre .0) S (s .args .e) _ _ h (s .pre .1 .1 .1) (s .args .x) _ _ (same-second (s .args .x) (period-is (s .args .v .now))) (c .last-at .ensures) in
-    omega (arith, w, force-word (s .pre .0) S (s .args .e) (s .args .x) h)
 
 returns-2 : tie.Need-returns-2
 returns-2 c =
@@ -55,7 +43,6 @@ word-in-force-spec =
     add-if1
     returns
     sub-last-at
+    cast-last-at
     last-at-requires
-    mul-result
-    add-result
     returns-2)

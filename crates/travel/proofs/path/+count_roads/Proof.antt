@@ -1,18 +1,20 @@
-use Prim.Native.Nat.{ℕ, _<_}
+use Prim.Native.Nat.{ℕ, _+_, _%_, _<_}
 use native.Mathlib.Omega.{arith}
 use native.Mathlib.Nat.{le-refl}
+use borrow.Author.Needs.{needs}
 use Rattle.volume.specs.Format.{volumeOf}
-use Rattle.travel.specs.Halves.{force-has, force-in, road-there, halves}
+use Rattle.travel.specs.Network.{pieceAt}
+use Rattle.travel.specs.Halves.{road-there, halves}
+use Rattle.travel.specs.PieceWords.{force-held, force-read}
 use Rattle.travel.specs.Unfolds.{InForce, road-unfolds, halves-unfold, few-roads}
 use borrow.Fn.Kinds.{In}
 use borrow.Fn.PlainCycle.{Measures, is, falls, and}
 use Rattle.travel.proofs.path.count_roads.Reads as count-roads
 use Rattle.travel.proofs.path.count_roads.Kinds as count-roads-kinds
 use Rattle.travel.proofs.path.+count_roads.Lts-count_roads as count-roads-lts
-use Rattle.travel.proofs.path.piece_in_force.Reads as piece-in-force-reads
+use Rattle.travel.proofs.path.word_of.Reads as word-of-reads
 use Rattle.travel.proofs.road.road_duration.Reads as road-duration-reads
-use Rattle.volume.proofs.tables.piece_left.Reads as piece-left-reads
-use Rattle.volume.proofs.tables.piece_right.Reads as piece-right-reads
+use Rattle.block.proofs.content.Reads as content-reads
 use Rattle.travel.proofs.path.+count_roads.{statement}
 use Rattle.travel.proofs.path.+count_roads.Tie.{close}
 
@@ -29,12 +31,10 @@ count-roads-below t =
 
 abbrev calls : ℕ → count-roads-lts.Claims
 calls t = (
-  piece-in-force-reads.Asked,
-  piece-in-force-reads.Learnt,
-  piece-left-reads.Asked,
-  piece-left-reads.Learnt,
-  piece-right-reads.Asked,
-  piece-right-reads.Learnt,
+  word-of-reads.Asked,
+  word-of-reads.Learnt,
+  content-reads.Asked,
+  content-reads.Learnt,
   road-duration-reads.Asked,
   road-duration-reads.Learnt,
   count-roads-below t,
@@ -42,36 +42,44 @@ calls t = (
 )
 
 -- the piece in force, once its left and right are read
-in-force : (t : ℕ) (c : count-roads-lts.After-piece-right (calls t) (count-roads-at t) count-roads.Post)
+in-force : (t : ℕ) (c : count-roads-lts.After-content2 (calls t) (count-roads-at t) count-roads.Post)
     → InForce (volumeOf (c .before .before .before .before .args .v .now)) (c .before .before .before .before .args .e) (c .before .before .before .before .args .x)
-    (c .before .before .piece-in-force .result) (c .before .piece-left .result) (c .piece-right .result)
+    (pieceAt (volumeOf (c .before .before .before .before .args .v .now)) (c .before .before .before .before .args .e) (c .before .before .before .before .args .x % volumeOf (c .before .before .before .before .args .v .now) .period))
+    (c .before .content .result) (c .content2 .result)
 in-force t c =
     let s = c .before .before .before .before in
-    record {
-      hand = record {
-        sound = s .pre .1 .1 .0;
-        enters = s .pre .1 .1 .1;
-        has = force-has _ (s .pre .1 .1 .0) (s .args .e) (s .args .x) _ (s .pre .1 .1 .1 .there) (c .before .before .piece-in-force .ensures);
-        left = c .before .piece-left .ensures .0;
-        right = c .piece-right .ensures .0;
-      };
-      force = c .before .before .piece-in-force .ensures;
-    }
+    force-read (s .pre .1 .0) (s .pre .1 .1 .0) (s .args .e) (s .args .x) _ (s .pre .1 .1 .1) (c .before .before .word-of .ensures) _ _ (c .before .content .ensures) (c .content2 .ensures)
 
-count-roads-piece-in-force-requires : (t : ℕ) → count-roads-lts.Need-piece-in-force-requires (calls t) (count-roads-at t) count-roads.Post
-count-roads-piece-in-force-requires t c κs =
+count-roads-word-of-requires : (t : ℕ) → count-roads-lts.Need-word-of-requires (calls t) (count-roads-at t) count-roads.Post
+count-roads-word-of-requires t c κs =
     let s = c .before in
     (s .pre .1 .0, (s .pre .1 .1 .0, s .pre .1 .1 .1 .there))
 
-count-roads-piece-left-requires : (t : ℕ) → count-roads-lts.Need-piece-left-requires (calls t) (count-roads-at t) count-roads.Post
-count-roads-piece-left-requires t c κs =
+count-roads-add-content : (t : ℕ) → count-roads-lts.Need-add-content (calls t) (count-roads-at t) count-roads.Post
+count-roads-add-content t c =
     let s = c .before .before in
-    (s .pre .1 .0, force-in _ (s .pre .1 .1 .0) (s .args .e) (s .args .x) _ (s .pre .1 .1 .1 .there) (c .piece-in-force .ensures))
+    omega (arith, force-held (s .pre .1 .0) (s .pre .1 .1 .0) (s .args .e) (s .args .x) _ (s .pre .1 .1 .1) (c .word-of .ensures) 1 (omega arith))
 
-count-roads-piece-right-requires : (t : ℕ) → count-roads-lts.Need-piece-right-requires (calls t) (count-roads-at t) count-roads.Post
-count-roads-piece-right-requires t c κs =
+count-roads-content-requires : (t : ℕ) → count-roads-lts.Need-content-requires (calls t) (count-roads-at t) count-roads.Post
+count-roads-content-requires t c κs =
+    let s = c .before .before in
+    force-held (s .pre .1 .0) (s .pre .1 .1 .0) (s .args .e) (s .args .x) _ (s .pre .1 .1 .1) (c .word-of .ensures) 1 (omega arith)
+
+count-roads-cast-left : (t : ℕ) → count-roads-lts.Need-cast-left (calls t) (count-roads-at t) count-roads.Post
+count-roads-cast-left t c = search needs
+
+count-roads-add-content-2 : (t : ℕ) → count-roads-lts.Need-add-content-2 (calls t) (count-roads-at t) count-roads.Post
+count-roads-add-content-2 t c =
     let s = c .before .before .before in
-    (s .pre .1 .0, force-in _ (s .pre .1 .1 .0) (s .args .e) (s .args .x) _ (s .pre .1 .1 .1 .there) (c .before .piece-in-force .ensures))
+    omega (arith, force-held (s .pre .1 .0) (s .pre .1 .1 .0) (s .args .e) (s .args .x) _ (s .pre .1 .1 .1) (c .before .word-of .ensures) 2 (omega arith))
+
+count-roads-content-requires-2 : (t : ℕ) → count-roads-lts.Need-content-requires-2 (calls t) (count-roads-at t) count-roads.Post
+count-roads-content-requires-2 t c κs =
+    let s = c .before .before .before in
+    force-held (s .pre .1 .0) (s .pre .1 .1 .0) (s .args .e) (s .args .x) _ (s .pre .1 .1 .1) (c .before .word-of .ensures) 2 (omega arith)
+
+count-roads-cast-right : (t : ℕ) → count-roads-lts.Need-cast-right (calls t) (count-roads-at t) count-roads.Post
+count-roads-cast-right t c = search needs
 
 count-roads-road-duration-requires : (t : ℕ) → count-roads-lts.Need-road-duration-requires (calls t) (count-roads-at t) count-roads.Post
 count-roads-road-duration-requires t c κs =
@@ -88,7 +96,7 @@ count-roads-count-roads-requires : (t : ℕ) → count-roads-lts.Need-count-road
 count-roads-count-roads-requires t c κs =
     let s = c .before .before .before .before .before in
     let H = halves (in-force t (c .before) .hand) (c .if1 .left) in
-    let m : c .before .before .piece-left .result < t = omega (arith, s .pre .0, H .left-below) in
+    let m : c .before .before .content .result < t = omega (arith, s .pre .0, H .left-below) in
     (m, (s .pre .1 .0, (s .pre .1 .1 .0, H .left)))
 
 count-roads-add-count-roads : (t : ℕ) → count-roads-lts.Need-add-count-roads (calls t) (count-roads-at t) count-roads.Post
@@ -103,7 +111,7 @@ count-roads-count-roads-requires-2 t c κs =
     let d = c .before .before in
     let s = d .before .before .before .before .before in
     let H = halves (in-force t (d .before) .hand) (d .if1 .left) in
-    let m : d .before .piece-right .result < t = omega (arith, s .pre .0, H .right-below) in
+    let m : d .before .content2 .result < t = omega (arith, s .pre .0, H .right-below) in
     (m, (s .pre .1 .0, (s .pre .1 .1 .0, H .right _ (omega (arith, c .before .count-roads .ensures .duration)))))
 
 count-roads-add-roads : (t : ℕ) → count-roads-lts.Need-add-roads (calls t) (count-roads-at t) count-roads.Post
@@ -135,9 +143,13 @@ count-roads-returns-2 t c =
 pub +count-roads-spec : {M : Type 1} → statement M
 +count-roads-spec = close μ-count-roads λ t. count-roads-lts.spec (calls t) (count-roads-at t)
     count-roads.Post
-    (count-roads-piece-in-force-requires t)
-    (count-roads-piece-left-requires t)
-    (count-roads-piece-right-requires t)
+    (count-roads-word-of-requires t)
+    (count-roads-add-content t)
+    (count-roads-content-requires t)
+    (count-roads-cast-left t)
+    (count-roads-add-content-2 t)
+    (count-roads-content-requires-2 t)
+    (count-roads-cast-right t)
     (count-roads-road-duration-requires t)
     (count-roads-returns t)
     (count-roads-count-roads-requires t)

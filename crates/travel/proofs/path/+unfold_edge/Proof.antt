@@ -1,4 +1,4 @@
-use Prim.Native.Nat.{ℕ, _+_, _<_}
+use Prim.Native.Nat.{ℕ, _+_, _%_, _<_}
 use mathlib.Core.Path.{ap, sym, _∙_}
 use mathlib.Core.List.{List, []}
 use lib.ListN.{length}
@@ -6,8 +6,9 @@ use native.Mathlib.Omega.{arith}
 use native.Mathlib.Nat.{le-refl}
 use borrow.Author.Needs.{needs}
 use Rattle.volume.specs.Format.{volumeOf}
-use Rattle.travel.specs.Network.{roadsOf}
-use Rattle.travel.specs.Halves.{force-has, force-in, road-there, halves}
+use Rattle.travel.specs.Network.{pieceAt, roadsOf}
+use Rattle.travel.specs.Halves.{road-there, halves}
+use Rattle.travel.specs.PieceWords.{force-held, force-read}
 use Rattle.travel.specs.Unfolds.{InForce, one-road, road-unfolds, left-among, roads-halves, halves-unfold, few-roads}
 use Rattle.travel.specs.Written.{withRoads, one-written, count-in, room-after, two-written}
 use borrow.Fn.Kinds.{In}
@@ -15,10 +16,9 @@ use borrow.Fn.PlainCycle.{Measures, is, falls, and}
 use Rattle.travel.proofs.path.unfold_edge.Reads as unfold-edge
 use Rattle.travel.proofs.path.unfold_edge.Kinds as unfold-edge-kinds
 use Rattle.travel.proofs.path.+unfold_edge.Lts-unfold_edge as unfold-edge-lts
-use Rattle.travel.proofs.path.piece_in_force.Reads as piece-in-force-reads
+use Rattle.travel.proofs.path.word_of.Reads as word-of-reads
 use Rattle.travel.proofs.road.road_duration.Reads as road-duration-reads
-use Rattle.volume.proofs.tables.piece_left.Reads as piece-left-reads
-use Rattle.volume.proofs.tables.piece_right.Reads as piece-right-reads
+use Rattle.block.proofs.content.Reads as content-reads
 use Rattle.travel.proofs.path.+unfold_edge.{statement}
 use Rattle.travel.proofs.path.+unfold_edge.Tie.{close}
 
@@ -35,12 +35,10 @@ unfold-edge-below t =
 
 abbrev calls : ℕ → unfold-edge-lts.Claims
 calls t = (
-  piece-in-force-reads.Asked,
-  piece-in-force-reads.Learnt,
-  piece-left-reads.Asked,
-  piece-left-reads.Learnt,
-  piece-right-reads.Asked,
-  piece-right-reads.Learnt,
+  word-of-reads.Asked,
+  word-of-reads.Learnt,
+  content-reads.Asked,
+  content-reads.Learnt,
   road-duration-reads.Asked,
   road-duration-reads.Learnt,
   unfold-edge-below t,
@@ -48,36 +46,44 @@ calls t = (
 )
 
 -- the piece in force, once its left and right are read
-in-force : (t : ℕ) (c : unfold-edge-lts.After-piece-right (calls t) (unfold-edge-at t) unfold-edge.Post)
+in-force : (t : ℕ) (c : unfold-edge-lts.After-content2 (calls t) (unfold-edge-at t) unfold-edge.Post)
     → InForce (volumeOf (c .before .before .before .before .before .args .v .now)) (c .before .before .before .before .before .args .e) (c .before .before .before .before .before .args .x)
-    (c .before .before .piece-in-force .result) (c .before .piece-left .result) (c .piece-right .result)
+    (pieceAt (volumeOf (c .before .before .before .before .before .args .v .now)) (c .before .before .before .before .before .args .e) (c .before .before .before .before .before .args .x % volumeOf (c .before .before .before .before .before .args .v .now) .period))
+    (c .before .content .result) (c .content2 .result)
 in-force t c =
     let s = c .before .before .before .before .before in
-    record {
-      hand = record {
-        sound = s .pre .1 .1 .0;
-        enters = s .pre .1 .1 .1 .0;
-        has = force-has _ (s .pre .1 .1 .0) (s .args .e) (s .args .x) _ (s .pre .1 .1 .1 .0 .there) (c .before .before .piece-in-force .ensures);
-        left = c .before .piece-left .ensures .0;
-        right = c .piece-right .ensures .0;
-      };
-      force = c .before .before .piece-in-force .ensures;
-    }
+    force-read (s .pre .1 .0) (s .pre .1 .1 .0) (s .args .e) (s .args .x) _ (s .pre .1 .1 .1 .0) (c .before .before .word-of .ensures) _ _ (c .before .content .ensures) (c .content2 .ensures)
 
-unfold-edge-piece-in-force-requires : (t : ℕ) → unfold-edge-lts.Need-piece-in-force-requires (calls t) (unfold-edge-at t) unfold-edge.Post
-unfold-edge-piece-in-force-requires t c κs =
+unfold-edge-word-of-requires : (t : ℕ) → unfold-edge-lts.Need-word-of-requires (calls t) (unfold-edge-at t) unfold-edge.Post
+unfold-edge-word-of-requires t c κs =
     let s = c .before .before in
     (s .pre .1 .0, (s .pre .1 .1 .0, s .pre .1 .1 .1 .0 .there))
 
-unfold-edge-piece-left-requires : (t : ℕ) → unfold-edge-lts.Need-piece-left-requires (calls t) (unfold-edge-at t) unfold-edge.Post
-unfold-edge-piece-left-requires t c κs =
+unfold-edge-add-content : (t : ℕ) → unfold-edge-lts.Need-add-content (calls t) (unfold-edge-at t) unfold-edge.Post
+unfold-edge-add-content t c =
     let s = c .before .before .before in
-    (s .pre .1 .0, force-in _ (s .pre .1 .1 .0) (s .args .e) (s .args .x) _ (s .pre .1 .1 .1 .0 .there) (c .piece-in-force .ensures))
+    omega (arith, force-held (s .pre .1 .0) (s .pre .1 .1 .0) (s .args .e) (s .args .x) _ (s .pre .1 .1 .1 .0) (c .word-of .ensures) 1 (omega arith))
 
-unfold-edge-piece-right-requires : (t : ℕ) → unfold-edge-lts.Need-piece-right-requires (calls t) (unfold-edge-at t) unfold-edge.Post
-unfold-edge-piece-right-requires t c κs =
+unfold-edge-content-requires : (t : ℕ) → unfold-edge-lts.Need-content-requires (calls t) (unfold-edge-at t) unfold-edge.Post
+unfold-edge-content-requires t c κs =
+    let s = c .before .before .before in
+    force-held (s .pre .1 .0) (s .pre .1 .1 .0) (s .args .e) (s .args .x) _ (s .pre .1 .1 .1 .0) (c .word-of .ensures) 1 (omega arith)
+
+unfold-edge-cast-left : (t : ℕ) → unfold-edge-lts.Need-cast-left (calls t) (unfold-edge-at t) unfold-edge.Post
+unfold-edge-cast-left t c = search needs
+
+unfold-edge-add-content-2 : (t : ℕ) → unfold-edge-lts.Need-add-content-2 (calls t) (unfold-edge-at t) unfold-edge.Post
+unfold-edge-add-content-2 t c =
     let s = c .before .before .before .before in
-    (s .pre .1 .0, force-in _ (s .pre .1 .1 .0) (s .args .e) (s .args .x) _ (s .pre .1 .1 .1 .0 .there) (c .before .piece-in-force .ensures))
+    omega (arith, force-held (s .pre .1 .0) (s .pre .1 .1 .0) (s .args .e) (s .args .x) _ (s .pre .1 .1 .1 .0) (c .before .word-of .ensures) 2 (omega arith))
+
+unfold-edge-content-requires-2 : (t : ℕ) → unfold-edge-lts.Need-content-requires-2 (calls t) (unfold-edge-at t) unfold-edge.Post
+unfold-edge-content-requires-2 t c κs =
+    let s = c .before .before .before .before in
+    force-held (s .pre .1 .0) (s .pre .1 .1 .0) (s .args .e) (s .args .x) _ (s .pre .1 .1 .1 .0) (c .before .word-of .ensures) 2 (omega arith)
+
+unfold-edge-cast-right : (t : ℕ) → unfold-edge-lts.Need-cast-right (calls t) (unfold-edge-at t) unfold-edge.Post
+unfold-edge-cast-right t c = search needs
 
 unfold-edge-cast-path : (t : ℕ) → unfold-edge-lts.Need-cast-path (calls t) (unfold-edge-at t) unfold-edge.Post
 unfold-edge-cast-path t c = search needs
@@ -112,7 +118,7 @@ unfold-edge-unfold-edge-requires t c κs =
     let d = c .before in
     let s = d .before .before .before .before .before .before in
     let H = halves (in-force t (d .before) .hand) (d .if1 .left) in
-    let m : d .before .before .piece-left .result < t = omega (arith, s .pre .0, H .left-below) in
+    let m : d .before .before .content .result < t = omega (arith, s .pre .0, H .left-below) in
     let room = left-among (in-force t (d .before)) (d .if1 .left) in
     (m, (s .pre .1 .0, (s .pre .1 .1 .0, (H .left, omega (arith, s .pre .1 .1 .1 .1)))))
 
@@ -129,14 +135,14 @@ unfold-edge-mul-unfold-edge t c =
     let s = d .before .before .before .before .before .before in
     let H = halves (in-force t (d .before) .hand) (d .if1 .left) in
     let a = c .before .before .before .unfold-edge in
-    omega (arith, few-roads _ (s .pre .1 .1 .0) (d .before .before .piece-left .result) (s .args .x) _ (H .left .there) (a .ensures .0))
+    omega (arith, few-roads _ (s .pre .1 .1 .0) (d .before .before .content .result) (s .args .x) _ (H .left .there) (a .ensures .0))
 
 unfold-edge-sub-unfold-edge : (t : ℕ) → unfold-edge-lts.Need-sub-unfold-edge (calls t) (unfold-edge-at t) unfold-edge.Post
 unfold-edge-sub-unfold-edge t c =
     let d = c .before .before .before .before .before in
     let s = d .before .before .before .before .before .before in
     let a = c .before .before .before .unfold-edge in
-    let ks = roadsOf (volumeOf (s .args .v .now)) (d .before .before .piece-left .result) (s .args .x) in
+    let ks = roadsOf (volumeOf (s .args .v .now)) (d .before .before .content .result) (s .args .x) in
     let n = count-in ks [] (s .args .path .now) _ (a .result .roads) (a .ensures .0 .roads) (a .ensures .1) in
     omega arith
 
@@ -145,7 +151,7 @@ unfold-edge-part-unfold-edge-start t c =
     let d = c .before .before .before .before .before in
     let s = d .before .before .before .before .before .before in
     let a = c .before .before .before .unfold-edge in
-    let ks = roadsOf (volumeOf (s .args .v .now)) (d .before .before .piece-left .result) (s .args .x) in
+    let ks = roadsOf (volumeOf (s .args .v .now)) (d .before .before .content .result) (s .args .x) in
     let n = count-in ks [] (s .args .path .now) _ (a .result .roads) (a .ensures .0 .roads) (a .ensures .1) in
     omega arith
 
@@ -158,10 +164,10 @@ unfold-edge-unfold-edge-requires-2 t c κs =
     let s = d .before .before .before .before .before .before in
     let a = c .before .before .before .before .unfold-edge in
     let H = halves (in-force t (d .before) .hand) (d .if1 .left) in
-    let m : d .before .piece-right .result < t = omega (arith, s .pre .0, H .right-below) in
+    let m : d .before .content2 .result < t = omega (arith, s .pre .0, H .right-below) in
     let both = ap length (roads-halves (in-force t (d .before)) (d .if1 .left) _ (a .ensures .0)) in
-    let ks = roadsOf (volumeOf (s .args .v .now)) (d .before .before .piece-left .result) (s .args .x) in
-    let js = roadsOf (volumeOf (s .args .v .now)) (d .before .piece-right .result) (s .args .x + a .result .duration) in
+    let ks = roadsOf (volumeOf (s .args .v .now)) (d .before .before .content .result) (s .args .x) in
+    let js = roadsOf (volumeOf (s .args .v .now)) (d .before .content2 .result) (s .args .x + a .result .duration) in
     let room =
     room-after ks js (s .args .path .now) _ (a .result .roads) (a .ensures .0 .roads) (a .ensures .1) (omega (arith, s .pre .1 .1 .1 .1))
     in
@@ -194,8 +200,8 @@ unfold-edge-returns-2 t c =
     let s = d .before .before .before .before .before .before in
     let a = c .before .before .before .before .before .before .before .before .before .before .unfold-edge in
     let b = c .before .before .before .before .before .unfold-edge2 in
-    let ks = roadsOf (volumeOf (s .args .v .now)) (d .before .before .piece-left .result) (s .args .x) in
-    let js = roadsOf (volumeOf (s .args .v .now)) (d .before .piece-right .result) (s .args .x + a .result .duration) in
+    let ks = roadsOf (volumeOf (s .args .v .now)) (d .before .before .content .result) (s .args .x) in
+    let js = roadsOf (volumeOf (s .args .v .now)) (d .before .content2 .result) (s .args .x + a .result .duration) in
     let both = roads-halves (in-force t (d .before)) (d .if1 .left) _ (a .ensures .0) in (
       halves-unfold (in-force t (d .before)) (d .if1 .left) _ (a .ensures .0) _ (b .ensures .0),
       two-written ks js (s .args .path .now) _ (a .result .roads) (a .ensures .0 .roads) (a .ensures .1) _ (b .ensures .1)
@@ -205,9 +211,13 @@ unfold-edge-returns-2 t c =
 pub +unfold-edge-spec : {M : Type 1} → statement M
 +unfold-edge-spec = close μ-unfold-edge λ t. unfold-edge-lts.spec (calls t) (unfold-edge-at t)
     unfold-edge.Post
-    (unfold-edge-piece-in-force-requires t)
-    (unfold-edge-piece-left-requires t)
-    (unfold-edge-piece-right-requires t)
+    (unfold-edge-word-of-requires t)
+    (unfold-edge-add-content t)
+    (unfold-edge-content-requires t)
+    (unfold-edge-cast-left t)
+    (unfold-edge-add-content-2 t)
+    (unfold-edge-content-requires-2 t)
+    (unfold-edge-cast-right t)
     (unfold-edge-cast-path t)
     (unfold-edge-slice-write-path t)
     (unfold-edge-road-duration-requires t)

@@ -60,11 +60,14 @@ returns-2 c =
     early-is R (s .args .x) _ (same-second (s .args .x) P) _ (omega (arith, c .before .before .before .before .point-at .ensures .second)) (omega arith)
     _ (c .from-point .ensures)
 
-mul-last-at : tie.Need-mul-last-at
-mul-last-at c = search needs
+mul-begin : tie.Need-mul-begin
+mul-begin c = search needs
 
-add-last-at : tie.Need-add-last-at
-add-last-at c = search needs
+add-begin : tie.Need-add-begin
+add-begin c = search needs
+
+cast-last-at : tie.Need-cast-last-at
+cast-last-at c = search needs
 
 last-at-requires : tie.Need-last-at-requires
 last-at-requires c κs =
@@ -72,6 +75,9 @@ last-at-requires c κs =
     let s = d .before .before .before in
     let R = of-road (s .pre .1 .0) (s .pre .1 .1) (d .before .road-first .ensures .0) (d .road-points .ensures .0) in
     seconds-row (s .pre .0) R _ refl _ (omega (arith, c .before .before .before .point-at .ensures .second))
+
+sub-from-point-2 : tie.Need-sub-from-point-2
+sub-from-point-2 c = omega (arith, c .last-at .ensures)
 
 from-point-requires-2 : tie.Need-from-point-requires-2
 from-point-requires-2 c κs =
@@ -107,8 +113,10 @@ road-duration-spec =
     add-from-point
     from-point-requires
     returns-2
-    mul-last-at
-    add-last-at
+    mul-begin
+    add-begin
+    cast-last-at
     last-at-requires
+    sub-from-point-2
     from-point-requires-2
     returns-3)
