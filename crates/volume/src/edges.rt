@@ -1,12 +1,8 @@
 // The edge rules.
-use crate::index::index_edges;
 use crate::kept::END;
 use crate::kept::SPAN;
 use crate::kept::START;
-use crate::kept::keep;
 use crate::kept::kept_part;
-use crate::repeats::first_repeat;
-use crate::roads::Pass;
 use crate::roads::ends_fit;
 use crate::roads::is_placed;
 use crate::tables::Counts;
@@ -27,12 +23,11 @@ ghost use mathlib.Core.Path.{_≡_};
 ghost use Prim.Native.Nat.{ℕ, _+_, _-_, _*_, _^_, _≤_, _<_, max};
 ghost use mathlib.Core.List.{List};
 ghost use lib.ListN.{length};
-ghost use Rattle.volume.specs.Format.{volumeOf, Counted, Few, Laid, day};
+ghost use Rattle.volume.specs.Format.{volumeOf, Counted, Laid, day};
 ghost use Rattle.volume.specs.Rules.{begins, roadJoins, meet, pairJoins, startFits, edgeRule};
 ghost use Rattle.volume.specs.EdgeSteps.{pieceFit, piecesFit};
 ghost use Rattle.volume.specs.Kept.{Kept};
-ghost use Rattle.volume.specs.Passes.{edgesPass};
-ghost use Rattle.volume.specs.Repeats.{Fresh, FirstRepeat};
+ghost use Rattle.volume.specs.Repeats.{Fresh};
 
 const MOST_SPAN: usize = 4096;
 
@@ -182,7 +177,7 @@ fn pieces_fit(
 }
 
 // Does edge e obey, where no earlier edge has its ends? Its pieces are to begin at `begin`.
-fn edge_fits(v: &[u8], t: Tables, kept: &[u16], c: Counts, e: usize, begin: usize) -> bool
+pub fn edge_fits(v: &[u8], t: Tables, kept: &[u16], c: Counts, e: usize, begin: usize) -> bool
     requires { ⌜ Laid (now v) t ⌝ }
     requires { ⌜ Kept (volumeOf (now v)) e (now kept) ⌝ }
     requires { ⌜ Counted (volumeOf (now v)) c ⌝ }
@@ -209,67 +204,4 @@ fn edge_fits(v: &[u8], t: Tables, kept: &[u16], c: Counts, e: usize, begin: usiz
         return false;
     }
     span <= MOST_SPAN
-}
-
-// The pass over all edges, of which `repeat` is the first whose ends an earlier one has: the first edge at fault, or E where pieces
-// are left over. It keeps what later pairs ask of an edge.
-fn pass_keeping(v: &[u8], t: Tables, c: Counts, repeat: usize, kept: &mut [u16]) -> Pass
-    requires { ⌜ Laid (now v) t ⌝ }
-    requires { ⌜ Counted (volumeOf (now v)) c ⌝ }
-    requires { ⌜ Few c ⌝ }
-    requires { ⌜ FirstRepeat (volumeOf (now v)) repeat ⌝ }
-    requires { ⌜ 3 * c .edges ≤ length (now kept) ⌝ }
-    ensures { λ r. ⌜ r ≡ edgesPass (volumeOf (now (v .entry))) ⌝ }
-{
-    let mut begin: usize = 0;
-    let mut e: usize = 0;
-    while e < repeat {
-        if !edge_fits(v, t, kept, c, e, begin) {
-            return Pass::Fault(e);
-        }
-        keep(v, t, kept, e);
-        begin += edge_pieces(v, t, e);
-        e += 1;
-    }
-    if e < c.edges {
-        return Pass::Fault(e);
-    }
-    if begin != c.pieces {
-        return Pass::Fault(e);
-    }
-    Pass::Fine
-}
-
-// The pass over all edges. The list holds the index until the first repeat is found, and then what is kept of the edges that passed.
-fn pass_within(v: &[u8], t: Tables, c: Counts, list: &mut [u16]) -> Pass
-    requires { ⌜ Laid (now v) t ⌝ }
-    requires { ⌜ Counted (volumeOf (now v)) c ⌝ }
-    requires { ⌜ Few c ⌝ }
-    requires { ⌜ 3 * c .edges ≤ length (now list) ⌝ }
-    ensures { λ r. ⌜ r ≡ edgesPass (volumeOf (now (v .entry))) ⌝ }
-{
-    let mut first = [0u16; 1024];
-    index_edges(v, t, c, &mut first, list);
-    let repeat = first_repeat(v, t, c, &first, list);
-    pass_keeping(v, t, c, repeat, list)
-}
-
-// The pass over all edges: the first at fault, or E where pieces are left over. A list of the full length takes longer to make than
-// a volume of a block or two takes to read, so fewer edges get a shorter list.
-pub fn edges_pass(v: &[u8], t: Tables, c: Counts) -> Pass
-    requires { ⌜ Laid (now v) t ⌝ }
-    requires { ⌜ Counted (volumeOf (now v)) c ⌝ }
-    requires { ⌜ Few c ⌝ }
-    ensures { λ r. ⌜ r ≡ edgesPass (volumeOf (now (v .entry))) ⌝ }
-{
-    if c.edges <= 1024 {
-        let mut list = [0u16; 3072];
-        return pass_within(v, t, c, &mut list);
-    }
-    if c.edges <= 4096 {
-        let mut list = [0u16; 12288];
-        return pass_within(v, t, c, &mut list);
-    }
-    let mut list = [0u16; 49152];
-    pass_within(v, t, c, &mut list)
 }

@@ -1,6 +1,6 @@
 // Volumes: what the content words mean, the road and edge rules, and opening. Answers to document 01,
 // "The volume". Travel times are said in the crate `travel`.
-use crate::edges::edges_pass;
+use crate::edge_pass::edges_pass;
 use crate::roads::Pass;
 use crate::roads::roads_pass;
 use crate::tables::Counts;
@@ -18,6 +18,7 @@ ghost use Rattle.volume.specs.Format.{volumeOf, countsOf, tablesOf, Few,
 ghost use Rattle.volume.specs.Rules.{headFits, fillerZero, countsRule};
 ghost use Rattle.volume.specs.Open.{recordsOf, openOf};
 
+pub mod edge_pass;
 pub mod edges;
 pub mod index;
 pub mod kept;

@@ -55,20 +55,28 @@ fn repeat_from(
     least
 }
 
-// The first edge whose two ends an earlier edge has, or E.
-pub fn first_repeat(v: &[u8], t: Tables, c: Counts, first: &[u16], next: &[u16]) -> usize
+// The first edge whose two ends an earlier edge has, or E. The stamps are to be clean.
+pub fn first_repeat(
+    v: &[u8],
+    t: Tables,
+    c: Counts,
+    first: &[u16],
+    next: &[u16],
+    stamps: &mut [u16],
+) -> usize
     requires { ⌜ Laid (now v) t ⌝ }
     requires { ⌜ Counted (volumeOf (now v)) c ⌝ }
     requires { ⌜ Few c ⌝ }
     requires { ⌜ Linked (volumeOf (now v)) (now first) (now next) ⌝ }
+    requires { ⌜ Stamped (c .junctions) 0 (now stamps) ⌝ }
     ensures { λ r. ⌜ FirstRepeat (volumeOf (now (v .entry))) r ⌝ }
+    ensures { λ r. ⌜ Stamped (c .junctions) (c .junctions) (now (stamps .exit)) ⌝ }
 {
     let n = c.junctions;
-    let mut stamps = [0u16; 1024];
     let mut least = c.edges;
     let mut u: usize = 0;
     while u < n {
-        least = repeat_from(v, t, n, first, next, u, &mut stamps, least);
+        least = repeat_from(v, t, n, first, next, u, stamps, least);
         u += 1;
     }
     least

@@ -11,8 +11,8 @@ use Rattle.volume.specs.Passes.{placed-fact, pass-fault, pass-over, pass
 use Rattle.volume.specs.Rules.{edgeRule, begins}
 use Rattle.volume.specs.Format.{volumeOf}
 use Rattle.block.specs.First.{Passed, first-start, first-go}
-use Rattle.volume.proofs.edges.pass_keeping.Statement.{statement}
-use Rattle.volume.proofs.edges.pass_keeping.Tie as tie
+use Rattle.volume.proofs.edge_pass.pass_keeping.Statement.{statement}
+use Rattle.volume.proofs.edge_pass.pass_keeping.Tie as tie
 
 abbrev Inv-loop : tie.InvT-loop
 Inv-loop v t c repeat kept₀ begin₀ e₀ kept begin e =
