@@ -19,7 +19,7 @@ use Rattle.volume.specs.Sound.{Sound}
 use Rattle.travel.specs.Network.{networkOf}
 use Rattle.full.specs.Cover.{coverOf}
 use Rattle.full.specs.Fault.{isFull, ofRoad, ofPair, isPair, roadFault, pairFault, roadsFault, rightsFault, leftsFault, faultOf, verdictOf}
-use Rattle.full.specs.FaultRow.{full-is, not-full, fault-none, First, row-full, row-found, row-is}
+use Rattle.full.specs.FaultRow.{full-is, not-full, fault-none, row-full, row-found, row-is}
 use Rattle.full.specs.FaultFound.{pair-yes, no-pair, pair-fault, faults-road, faults-pair, verdict-refused, verdict-opened}
 use Rattle.full.specs.Means.{RoadSays, PairSays, Pair, RoadsFine, PairsFine, RoadFirst, PairFirst, Says, Opens, Means}
 use Rattle.full.specs.CoverMeans.{cover-says, cover-is}

@@ -12,7 +12,7 @@ use Rattle.block.specs.Choose.{choose-no}
 use Rattle.theory.specs.Ways.{Drives, Way, LeastArrival}
 use Rattle.theory.specs.Network.{Network, Roads, FullDay, SoundNetwork}
 use Rattle.theory.specs.Settling as Rule
-use Rattle.theory.specs.Settling.{none, closed, open-from}
+use Rattle.theory.specs.Settling.{none, open-from}
 use Rattle.theory.specs.Windows.{NotBelow, IsAt, Tops, used, Finished, Narrows}
 use Rattle.theory.specs.Promises as Theory
 use Rattle.volume.specs.Format.{volumeOf}

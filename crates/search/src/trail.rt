@@ -2,7 +2,7 @@
 use volume::tables::Tables;
 use volume::tables::edge_from;
 ghost use mathlib.Core.Path.{_≡_};
-ghost use Prim.Native.Nat.{_+_, _*_, _≤_, _<_};
+ghost use Prim.Native.Nat.{_*_, _≤_, _<_};
 ghost use lib.ListN.{length};
 ghost use Rattle.theory.specs.Settling.{arc-of};
 ghost use Rattle.volume.specs.Format.{volumeOf, Laid};

@@ -15,7 +15,7 @@ use volume::index::index_edges;
 use volume::tables::Counts;
 use volume::tables::Tables;
 ghost use mathlib.Core.Path.{_≡_};
-ghost use Prim.Native.Nat.{_+_, _*_, _^_, _≤_, _<_};
+ghost use Prim.Native.Nat.{_+_, _≤_, _<_};
 ghost use lib.ListN.{length};
 ghost use Rattle.volume.specs.Format.{volumeOf, Counted, Few, Laid};
 ghost use Rattle.volume.specs.Index.{Linked};

@@ -1,6 +1,6 @@
 -- A pass over all roads or all edges: what it finds, how it ends, and what ends and places that fit say. What each step of a pass
 -- learns is in RoadSteps and EdgeSteps.
-use Prim.Native.Nat.{ℕ, _+_, _-_, _≤_, _<_}
+use Prim.Native.Nat.{ℕ, _+_, _≤_, _<_}
 use mathlib.Core.Path.{_≡_, sym, _∙_, ap}
 use mathlib.Core.Logic.{_≢_}
 use mathlib.Core.Bool.{Bool, true, false, not}

@@ -5,7 +5,7 @@ use crate::tables::edge_from;
 use crate::tables::edge_span;
 use crate::tables::edge_to;
 ghost use mathlib.Core.Path.{_≡_};
-ghost use Prim.Native.Nat.{_+_, _*_, _^_, _≤_, _<_};
+ghost use Prim.Native.Nat.{_+_, _*_, _^_, _<_};
 ghost use lib.ListN.{length, getD};
 ghost use Rattle.volume.specs.Format.{volumeOf, Laid};
 ghost use Rattle.volume.specs.Kept.{keeping, Short};

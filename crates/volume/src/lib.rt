@@ -11,7 +11,7 @@ use block::content;
 use block::first_bad;
 use block::is_whole;
 ghost use mathlib.Core.Path.{_≡_};
-ghost use Prim.Native.Nat.{_+_, _*_, _/_, _≤_, _<_};
+ghost use Prim.Native.Nat.{_*_, _/_, _≤_};
 ghost use lib.ListN.{length};
 ghost use Rattle.block.specs.Choose.{choose};
 ghost use Rattle.volume.specs.Format.{volumeOf, countsOf, tablesOf, Few, Laid};

@@ -1,6 +1,6 @@
 use lib.ListN.{length}
 use mathlib.Core.Path.{_≡_}
-use Prim.Native.Nat.{ℕ, _≤_, _-_}
+use Prim.Native.Nat.{_≤_, _-_}
 use borrow.Author.Needs.{needs}
 use Rattle.sample_volume.proofs.main.Statement.{statement}
 use Rattle.sample_volume.proofs.main.Tie as tie

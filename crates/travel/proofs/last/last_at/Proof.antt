@@ -1,8 +1,6 @@
-use Prim.Native.Nat.{_+_, _*_, _/_}
 use mathlib.Core.Logic.{⊎-elim}
 use native.Mathlib.Omega.{arith}
 use Rattle.travel.specs.Row.{Left, left-all, middle-held, left-upper, left-lower, left-one}
-use borrow.Author.Needs.{needs}
 use Rattle.travel.proofs.last.last_at.Statement.{statement}
 use Rattle.travel.proofs.last.last_at.Tie as tie
 
