@@ -39,11 +39,17 @@ static uint64_t road_time(int side) {
     return refused ? UINT64_MAX : out[0];
 }
 
-static uint64_t edge_time(int side) {
-    uint32_t x = 43210;
-    uint32_t refused = side == LIBRARY ? bf_edge_time(volume, length, number, x, out, OUT_PLACES)
-                                       : twin_edge_time(volume, length, number, x, out, OUT_PLACES);
+static uint64_t time_of_edge(int side, uint32_t edge, uint32_t x) {
+    uint32_t refused = side == LIBRARY ? bf_edge_time(volume, length, edge, x, out, OUT_PLACES)
+                                       : twin_edge_time(volume, length, edge, x, out, OUT_PLACES);
     return refused ? UINT64_MAX : out[0];
+}
+
+static uint64_t edge_time(int side) { return time_of_edge(side, number, 43210); }
+
+static uint64_t edge_in_turn(int side) {
+    uint32_t turn = number++;
+    return time_of_edge(side, 7 * turn % net.e, 4321 * turn % DAY);
 }
 
 static uint64_t check(int side) {
@@ -145,6 +151,8 @@ static void measure_limits(struct dice *d) {
     gen_limits(&net, d);
     length = net_write(&net, volume);
     print_row("opening, all limits", net.n, race(opening, 21, 4).whole);
+    for (number = 0; net.edge[number].span != 1;) number++;
+    print_row("an edge's time, one road, all limits, with opening", net.n, race(edge_time, 21, 4).whole);
 }
 
 /* One road of many points in a volume of one block: opening is short there. */
@@ -184,6 +192,8 @@ static int make_map(struct dice *d, uint32_t width, uint32_t height) {
 
 static void measure_search(struct dice *d, uint32_t width, uint32_t height) {
     if (!make_map(d, width, height)) exit(1);
+    number = 0;
+    print_row("an edge's time, edges of a map in turn, with opening", net.n, race(edge_in_turn, 31, 256).whole);
     number = 0;
     struct raced found = race(search, 31, QUESTIONS);
     struct times roads = race(bare, 11, QUESTIONS).whole;
