@@ -1,22 +1,17 @@
 // Opening at the boundaries of the rules: what just passes, and what is just refused.
-use crate::networks::ferry;
-use crate::networks::sample;
-use crate::page::lay;
-use crate::page::put;
-use crate::say::heading;
-use crate::say::labelled;
-use crate::say::opening;
-use crate::say::should;
-use crate::say::text;
 use block::seal;
+use telling::line::heading;
+use telling::line::opened;
+use telling::networks::ferry;
+use telling::networks::sample;
+use telling::page::lay;
+use telling::page::put;
+use telling::say::labelled;
 use volume::open;
 
 // The line of opening v.
 pub(crate) fn opens(label: &[u8], v: &[u8], line: &[u8]) {
-    text(label);
-    text(b": ");
-    opening(open(v));
-    should(line);
+    opened(label, open(v), line);
 }
 
 // The sample with content word w changed to x, sealed again.

@@ -1,25 +1,15 @@
 // The full check of the sample and of its neighbours that are not full.
-use crate::networks::sample;
-use crate::page::lay;
-use crate::say::heading;
-use crate::say::should;
-use crate::say::text;
-use crate::say::verdict;
 use full::check;
-
-// The line of the full check of v.
-pub(crate) fn checks(label: &[u8], v: &[u8], line: &[u8]) {
-    text(label);
-    text(b": ");
-    verdict(check(v));
-    should(line);
-}
+use telling::line::checked;
+use telling::line::heading;
+use telling::networks::sample;
+use telling::page::lay;
 
 // A volume of one block with the numbers of a text.
 fn with_text(label: &[u8], numbers: &[u8], line: &[u8]) {
     let mut v = [0u8; 512];
     lay(&mut v, numbers);
-    checks(label, &v, line);
+    checked(label, check(&v), line);
 }
 
 // The sample with other pieces of edge 2, and with no edge 2.
@@ -54,7 +44,7 @@ pub(crate) fn fullness() {
     heading(b"The full check of the sample and of its neighbours");
     let mut v = [0u8; 512];
     sample(&mut v);
-    checks(b"the sample", &v, b"full");
+    checked(b"the sample", check(&v), b"full");
     neighbours();
-    checks(b"no byte", &v[..0], b"refused 1 0");
+    checked(b"no byte", check(&v[..0]), b"refused 1 0");
 }

@@ -1,14 +1,12 @@
 // Questions to the sample: document 01's cases, the refusals of a search, and the lent lists' least sizes; and to the ferry, for a window
 // with an upper end.
-use crate::networks::ferry;
-use crate::networks::sample;
-use crate::say::answer;
-use crate::say::heading;
-use crate::say::labelled;
-use crate::say::number;
-use crate::say::should;
-use crate::say::text;
 use search::search;
+use telling::line::asked;
+use telling::line::heading;
+use telling::networks::ferry;
+use telling::networks::sample;
+use telling::say::labelled;
+use telling::say::text;
 ghost use Prim.Native.Nat.{_≤_};
 
 // Asks with a work area and a path list that are lent.
@@ -22,14 +20,8 @@ pub(crate) fn ask_with(
     path: &mut [u32],
     line: &[u8],
 ) {
-    number(from as u64);
-    labelled(b" to ", to as u64);
-    labelled(b" at ", departure as u64);
-    labelled(b" budget ", budget as u64);
-    text(b": ");
     let a = search(v, from, to, departure, budget, work, path);
-    answer(a, path);
-    should(line);
+    asked(from, to, departure, budget, a, path, line);
 }
 
 // Asks with a work area of so many numbers and room for so many roads.

@@ -1,12 +1,11 @@
 // Sealing: the sums of document 01's two blocks, and the lengths that are refused.
-use crate::page::put;
-use crate::say::heading;
-use crate::say::labelled;
-use crate::say::sealed;
-use crate::say::should;
-use crate::say::text;
 use block::seal;
 use block::word;
+use telling::line::heading;
+use telling::line::sealed;
+use telling::line::should;
+use telling::page::put;
+use telling::say::labelled;
 
 // The sums of block 0 with one content word, the rest zero.
 fn sums(first: u32, line: &[u8]) {
@@ -21,13 +20,9 @@ fn sums(first: u32, line: &[u8]) {
 
 fn lengths() {
     let mut v = [0u8; 512];
-    text(b"512 bytes: ");
-    sealed(seal(&mut v));
-    should(b"sealed");
+    sealed(b"512 bytes", seal(&mut v), b"sealed");
     let mut v = [0u8; 511];
-    text(b"511 bytes: ");
-    sealed(seal(&mut v));
-    should(b"refused 1 0");
+    sealed(b"511 bytes", seal(&mut v), b"refused 1 0");
 }
 
 pub(crate) fn sealing() {

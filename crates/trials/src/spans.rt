@@ -1,13 +1,13 @@
 // Edges of the greatest span. Roads join junction 0 and every other one, both ways, and every two junctions m below j are joined, both
 // ways, by edges that meet at m - 1: so the span of an edge is 2^m, and 4,096 between junctions 12 and 13.
 use crate::boundaries::opens;
-use crate::page::lay;
-use crate::page::put;
 use crate::questions::ask_with;
-use crate::say::heading;
-use crate::say::text;
 use crate::times::edge;
 use block::seal;
+use telling::line::heading;
+use telling::page::lay;
+use telling::page::put;
+use telling::say::text;
 ghost use Prim.Native.Nat.{_<_};
 
 const EMPTY: u32 = 4294967295;

@@ -1,27 +1,28 @@
 // Travel times of the sample's roads and edges.
-use crate::networks::sample;
-use crate::say::heading;
-use crate::say::labelled;
-use crate::say::should;
-use crate::say::text;
-use crate::say::timing;
+use telling::line::heading;
+use telling::line::timed;
+use telling::networks::sample;
 use travel::edge_time;
 use travel::road_time;
 
 fn road(v: &[u8], road: u32, departure: u32, seconds: &[u8]) {
-    labelled(b"road ", road as u64);
-    labelled(b" at ", departure as u64);
-    text(b": ");
-    timing(road_time(v, road, departure));
-    should(seconds);
+    timed(
+        b"road ",
+        road,
+        departure,
+        road_time(v, road, departure),
+        seconds,
+    );
 }
 
 pub(crate) fn edge(v: &[u8], edge: u32, departure: u32, seconds: &[u8]) {
-    labelled(b"edge ", edge as u64);
-    labelled(b" at ", departure as u64);
-    text(b": ");
-    timing(edge_time(v, edge, departure));
-    should(seconds);
+    timed(
+        b"edge ",
+        edge,
+        departure,
+        edge_time(v, edge, departure),
+        seconds,
+    );
 }
 
 fn roads(v: &[u8]) {
