@@ -2,9 +2,10 @@
 use block::put_word;
 use block::seal;
 ghost use mathlib.Core.Path.{_≡_};
-ghost use Prim.Native.Nat.{_%_};
+ghost use Prim.Native.Nat.{_%_, _<_};
+ghost use lib.ListN.{length};
 ghost use Rattle.block.specs.Seal.{sealed};
-ghost use Rattle.telling.specs.Page.{putContent};
+ghost use Rattle.telling.specs.Page.{putContent, putRow};
 
 const EMPTY: u32 = 4294967295;
 
@@ -45,6 +46,18 @@ pub fn put(v: &mut [u8], w: usize, x: u32)
     let i = at + 2 * (at / 126);
     if i < v.len() / 4 {
         put_word(v, i, x);
+    }
+}
+
+// Writes the numbers of a row as content words from word w on, of the first million; past the end nothing.
+pub fn put_row(v: &mut [u8], w: usize, row: &[u32])
+    requires { ⌜ w < 1000000 ⌝ }
+    ensures { λ _. ⌜ now (v .exit) ≡ putRow (now (v .entry)) w (now (row .entry)) (length (now (row .entry))) ⌝ }
+{
+    let mut i: usize = 0;
+    while i < row.len() {
+        put(v, w + i, row[i]);
+        i += 1;
     }
 }
 

@@ -1,18 +1,14 @@
-// Document 01's cases as a program runs them: sealing, the sample network, and the boundaries of the rules. Each line says what came out
-// and what should. The sweep of questions beside an independent search is the crate `sweep`'s.
-use crate::boundaries::boundaries;
+// Document 01's cases as a program runs them: sealing, and the sample network. Each line says what came out and what should. The rules at
+// their boundaries are the crate `boundaries`', and questions beside an independent search `sweep`'s.
 use crate::fullness::fullness;
 use crate::questions::questions;
 use crate::sealing::sealing;
-use crate::spans::spans;
 use crate::times::times;
 use telling::say::text;
 
-mod boundaries;
 mod fullness;
 mod questions;
 mod sealing;
-mod spans;
 mod times;
 
 fn main() {
@@ -20,7 +16,5 @@ fn main() {
     sealing();
     times();
     questions();
-    boundaries();
-    spans();
     fullness();
 }

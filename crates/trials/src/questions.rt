@@ -10,7 +10,7 @@ use telling::say::text;
 ghost use Prim.Native.Nat.{_≤_};
 
 // Asks with a work area and a path list that are lent.
-pub(crate) fn ask_with(
+fn ask_with(
     v: &[u8],
     from: u32,
     to: u32,

@@ -15,7 +15,7 @@ fn road(v: &[u8], road: u32, departure: u32, seconds: &[u8]) {
     );
 }
 
-pub(crate) fn edge(v: &[u8], edge: u32, departure: u32, seconds: &[u8]) {
+fn edge(v: &[u8], edge: u32, departure: u32, seconds: &[u8]) {
     timed(
         b"edge ",
         edge,

@@ -2,8 +2,8 @@ use Prim.Native.Nat.{ℕ, _≤_, _<_, _*_, _-_}
 use native.Mathlib.Omega.{arith}
 use native.Mathlib.Nat.{mul-le-mul}
 use borrow.Author.Needs.{needs}
-use Rattle.trials.proofs.spans.up.Statement.{statement}
-use Rattle.trials.proofs.spans.up.Tie as tie
+use Rattle.boundaries.proofs.spans.up.Statement.{statement}
+use Rattle.boundaries.proofs.spans.up.Tie as tie
 
 small : (j : ℕ) → j < 16 → j * (j - 1) ≤ 15 * 14
 small j h = mul-le-mul {n₁ = j} {m₁ = j - 1} {n₂ = 15} {m₂ = 14} (omega arith) (omega arith)

@@ -2,8 +2,8 @@ use Prim.Native.Nat.{_≤_, _-_}
 use mathlib.Core.Path.{_≡_}
 use lib.ListN.{length}
 use borrow.Author.Needs.{needs}
-use Rattle.trials.proofs.spans.put_all.Statement.{statement}
-use Rattle.trials.proofs.spans.put_all.Tie as tie
+use Rattle.boundaries.proofs.spans.put_all.Statement.{statement}
+use Rattle.boundaries.proofs.spans.put_all.Tie as tie
 
 abbrev Inv-loop : tie.InvT-loop
 Inv-loop v₀ s j₀ v j = (1 ≤ j) × (j ≤ 14) × (length v ≡ length v₀)

@@ -6,6 +6,7 @@ use telling::networks::ferry;
 use telling::networks::sample;
 use telling::page::lay;
 use telling::page::put;
+use telling::page::put_row;
 use telling::say::labelled;
 use volume::open;
 
@@ -27,10 +28,7 @@ fn with_word(label: &[u8], w: usize, x: u32, line: &[u8]) {
 fn with_points(t: u32, f: u32, u: u32, g: u32, line: &[u8]) {
     let mut v = [0u8; 512];
     sample(&mut v);
-    put(&mut v, 20, t);
-    put(&mut v, 21, f);
-    put(&mut v, 22, u);
-    put(&mut v, 23, g);
+    put_row(&mut v, 20, &[t, f, u, g]);
     seal(&mut v);
     labelled(b"road 1 by ", t as u64);
     labelled(b" ", f as u64);
@@ -119,7 +117,7 @@ fn falls() {
     with_points(0, 50, 86350, 101, b"refused 5 1");
 }
 
-pub(crate) fn boundaries() {
+pub(crate) fn openings() {
     heading(b"Opening at the boundaries of the rules");
     lengths();
     bytes();

@@ -1,13 +1,15 @@
 // Edges of the greatest span. Roads join junction 0 and every other one, both ways, and every two junctions m below j are joined, both
 // ways, by edges that meet at m - 1: so the span of an edge is 2^m, and 4,096 between junctions 12 and 13.
-use crate::boundaries::opens;
-use crate::questions::ask_with;
-use crate::times::edge;
+use crate::opening::opens;
 use block::seal;
+use search::search;
+use telling::line::asked;
 use telling::line::heading;
+use telling::line::timed;
 use telling::page::lay;
-use telling::page::put;
+use telling::page::put_row;
 use telling::say::text;
+use travel::edge_time;
 ghost use Prim.Native.Nat.{_<_};
 
 const EMPTY: u32 = 4294967295;
@@ -21,28 +23,16 @@ struct Starts {
 
 // Writes road k, with one point.
 fn put_road(v: &mut [u8], s: Starts, k: u32, from: u32, to: u32) {
-    let row = 6 + 4 * (k as usize % 1000);
-    put(v, row, from);
-    put(v, row + 1, to);
-    put(v, row + 2, k);
-    put(v, row + 3, 1);
-    let row = s.points % 10000 + 2 * (k as usize % 1000);
-    put(v, row, 0);
-    put(v, row + 1, 60);
+    let i = k as usize % 1000;
+    put_row(v, 6 + 4 * i, &[from, to, k, 1]);
+    put_row(v, s.points % 10000 + 2 * i, &[0, 60]);
 }
 
 // Writes edge e, with one piece.
 fn put_edge(v: &mut [u8], s: Starts, e: u32, from: u32, to: u32, left: u32, right: u32, span: u32) {
-    let row = s.edges % 10000 + 5 * (e as usize % 1000);
-    put(v, row, from);
-    put(v, row + 1, to);
-    put(v, row + 2, e);
-    put(v, row + 3, 1);
-    put(v, row + 4, span);
-    let row = s.pieces % 10000 + 3 * (e as usize % 1000);
-    put(v, row, 0);
-    put(v, row + 1, left);
-    put(v, row + 2, right);
+    let i = e as usize % 1000;
+    put_row(v, s.edges % 10000 + 5 * i, &[from, to, e, 1, span]);
+    put_row(v, s.pieces % 10000 + 3 * i, &[0, left, right]);
 }
 
 // The number of the edge from m up to j, where m is below j; the edge down from j to m has the next number.
@@ -103,9 +93,10 @@ fn put_all(v: &mut [u8], s: Starts) {
 fn ask_greatest(v: &[u8]) {
     let mut work = [0u64; 112];
     let mut path = [0u32; 4095];
-    edge(v, 181, 0, b"245760");
+    timed(b"edge ", 181, 0, edge_time(v, 181, 0), b"245760");
+    let a = search(v, 13, 12, 0, 5, &mut work, &mut path);
     text(b"work 112 room 4095: ");
-    ask_with(v, 13, 12, 0, 5, &mut work, &mut path, b"refused 9 4096");
+    asked(13, 12, 0, 5, a, &path, b"refused 9 4096");
 }
 
 fn greatest() {
