@@ -92,6 +92,7 @@ static int rising(const void *one, const void *other) {
 
 struct times {
     double side[SIDES]; /* seconds for one call */
+    double ratio;
 };
 
 /* A job's whole time, and what is left of it without opening the volume. */
@@ -110,12 +111,21 @@ static double median(double *round, uint32_t rounds) {
     return round[rounds / 2];
 }
 
-/* The medians of so many rounds of so many calls. The opening that is taken off
-   is timed in the same round, since a machine's pace drifts. */
+/* The medians of the rounds. The ratio is the median of the rounds' own ratios:
+   where the pace of the machine changes halfway, the two sides' medians may come
+   from different halves. */
+static struct times medians(double round[SIDES][MOST_ROUNDS], uint32_t rounds) {
+    double ratio[MOST_ROUNDS];
+    for (uint32_t i = 0; i < rounds; i++) ratio[i] = round[LIBRARY][i] / round[TWIN][i];
+    return (struct times){{median(round[LIBRARY], rounds), median(round[TWIN], rounds)},
+                          median(ratio, rounds)};
+}
+
+/* So many rounds of so many calls. The opening that is taken off is timed in the
+   same round, since a machine's pace drifts. */
 static struct raced race(uint64_t (*job)(int side), uint32_t rounds, uint32_t calls) {
     static double whole[SIDES][MOST_ROUNDS], after[SIDES][MOST_ROUNDS];
     uint64_t answers[SIDES] = {0, 0}, opened = 0;
-    struct raced medians;
     uint32_t start = number;
     for (uint32_t i = 0; i < rounds; i++) {
         for (int side = 0; side < SIDES; side++) {
@@ -128,20 +138,16 @@ static struct raced race(uint64_t (*job)(int side), uint32_t rounds, uint32_t ca
         printf("the answers differ: run host/test\n");
         exit(1);
     }
-    for (int side = 0; side < SIDES; side++) {
-        medians.whole.side[side] = median(whole[side], rounds);
-        medians.after.side[side] = median(after[side], rounds);
-    }
     number = start;
     sum += answers[TWIN] + opened;
-    return medians;
+    return (struct raced){medians(whole, rounds), medians(after, rounds)};
 }
 
 static void print_row(const char *what, uint32_t n, struct times t) {
     const char *unit = t.side[TWIN] > 0.1 ? "s" : t.side[TWIN] > 1e-4 ? "ms" : "us";
     double scale = t.side[TWIN] > 0.1 ? 1 : t.side[TWIN] > 1e-4 ? 1e3 : 1e6;
     printf("| %s | %u | %lu | %.3f %s | %.3f %s | %.2f |\n", what, n, length / BLOCK_BYTES,
-           scale * t.side[LIBRARY], unit, scale * t.side[TWIN], unit, t.side[LIBRARY] / t.side[TWIN]);
+           scale * t.side[LIBRARY], unit, scale * t.side[TWIN], unit, t.ratio);
     fflush(stdout);
 }
 
@@ -193,14 +199,16 @@ static int make_map(struct dice *d, uint32_t width, uint32_t height) {
 static void measure_search(struct dice *d, uint32_t width, uint32_t height) {
     if (!make_map(d, width, height)) exit(1);
     number = 0;
-    print_row("an edge's time, edges of a map in turn, with opening", net.n, race(edge_in_turn, 31, 256).whole);
+    print_row("an edge's time, edges of a map in turn, with opening", net.n,
+              race(edge_in_turn, 31, 256).whole);
     number = 0;
     struct raced found = race(search, 31, QUESTIONS);
     struct times roads = race(bare, 11, QUESTIONS).whole;
     print_row("a search, with opening", net.n, found.whole);
     print_row("a search, after opening", net.n, found.after);
     print_row("a search, after opening; for the twin: the search over the bare roads", net.n,
-              (struct times){{found.after.side[LIBRARY], roads.side[TWIN]}});
+              (struct times){{found.after.side[LIBRARY], roads.side[TWIN]},
+                             found.after.side[LIBRARY] / roads.side[TWIN]});
 }
 
 /* The check skips where a piece is the very road or pair it is held against; how
