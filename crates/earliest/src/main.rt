@@ -2,8 +2,10 @@
 // answer is, is the crate `search`'s, and how it is written, `telling`'s.
 use block::word;
 use libc::STDIN_FILENO;
+use search::Answer;
 use search::search;
-use telling::say::answer;
+use telling::say::closed;
+use telling::say::report;
 use telling::say::text;
 ghost use Prim.Native.Nat.{_≤_};
 ghost use lib.ListN.{length};
@@ -16,8 +18,12 @@ fn ask(input: &[u8], work: &mut [u64], path: &mut [u32])
     let to = word(input, 1);
     let departure = word(input, 2);
     let budget = word(input, 3);
-    let a = search(&input[16..], from, to, departure, budget, work, path);
-    answer(a, path);
+    let answer = search(&input[16..], from, to, departure, budget, work, path);
+    let Answer::Closed(arrival, used, roads) = answer else {
+        report(answer);
+        return;
+    };
+    closed(arrival, used, path, roads);
 }
 
 fn main() {

@@ -57,8 +57,10 @@ fn upper(end: Upper) {
     }
 }
 
-fn closed(arrival: u64, used: u64, path: &[u32], n: usize)
+// A closed answer, with the n roads that stand in the path list.
+pub fn closed(arrival: u64, used: u64, path: &[u32], n: usize)
     requires { ⌜ n ≤ length (now path) ⌝ }
+    ensures { λ _. ⊤ₛ }
 {
     labelled(b"arrive ", arrival);
     labelled(b" used ", used);
@@ -67,7 +69,9 @@ fn closed(arrival: u64, used: u64, path: &[u32], n: usize)
 }
 
 // An answer that is not closed, as it is.
-fn report(a: Answer) {
+pub fn report(a: Answer)
+    ensures { λ _. ⊤ₛ }
+{
     match a {
         // taken apart before this is called
         Answer::Closed(_, _, _) => {}

@@ -31,37 +31,37 @@ row-held v base stride n x i r h =
     let a = mul-le-mul-left {m = i} {n = n - 1} stride (omega arith) in
     omega (arith, r .held)
 
--- the search for the last that is at most x has come down to `left` records, of which the first stands at word w
-pub record Left (v : List ℕ) (base stride n x w left : ℕ) : Type 0 where
+-- the search for the last that is at most x has come down to `rest` records, of which the first stands at word w
+pub record Narrowed (v : List ℕ) (base stride n x w rest : ℕ) : Type 0 where
   pub lo : ℕ
   pub at : w ≡ base + stride * lo
-  pub within : Within (rowAt v base stride) n x lo left
+  pub within : Within (rowAt v base stride) n x lo rest
 
 module _ {v : List ℕ} {base stride n x : ℕ} (R : Row v base stride n x) where
-  pub left-all : Left v base stride n x base n
-  left-all = record { lo = 0; at = omega arith; within = within-all _ n x (R .some) (R .first) }
+  pub narrowed-all : Narrowed v base stride n x base n
+  narrowed-all = record { lo = 0; at = omega arith; within = within-all _ n x (R .some) (R .first) }
 
-  module _ {w left : ℕ} (L : Left v base stride n x w left) where
+  module _ {w rest : ℕ} (N : Narrowed v base stride n x w rest) where
     -- the record in the middle
-    middle : w + stride * (left / 2) ≡ base + stride * (L .lo + left / 2)
-    middle = let d = mul-add stride (L .lo) (left / 2) in omega (arith, d, L .at)
+    middle : w + stride * (rest / 2) ≡ base + stride * (N .lo + rest / 2)
+    middle = let d = mul-add stride (N .lo) (rest / 2) in omega (arith, d, N .at)
 
-    pub middle-held : 1 < left → Holds v (w + stride * (left / 2))
-    middle-held more = rw middle (row-held v base stride n x (L .lo + left / 2) R (omega (arith, L .within .inside)))
+    pub middle-held : 1 < rest → Holds v (w + stride * (rest / 2))
+    middle-held more = rw middle (row-held v base stride n x (N .lo + rest / 2) R (omega (arith, N .within .inside)))
 
-    pub left-upper : 1 < left → contentAt v (w + stride * (left / 2)) ≤ x
-        → Left v base stride n x (w + stride * (left / 2)) (left - left / 2)
-    left-upper more k =
+    pub narrowed-upper : 1 < rest → contentAt v (w + stride * (rest / 2)) ≤ x
+        → Narrowed v base stride n x (w + stride * (rest / 2)) (rest - rest / 2)
+    narrowed-upper more k =
         let q = ap (contentAt v) middle in
-        record { lo = L .lo + left / 2; at = middle; within = upper-half _ n x (L .lo) left (L .within) more (omega (arith, q)) }
+        record { lo = N .lo + rest / 2; at = middle; within = upper-half _ n x (N .lo) rest (N .within) more (omega (arith, q)) }
 
-    pub left-lower : 1 < left → x < contentAt v (w + stride * (left / 2)) → Left v base stride n x w (left - left / 2)
-    left-lower more k =
+    pub narrowed-lower : 1 < rest → x < contentAt v (w + stride * (rest / 2)) → Narrowed v base stride n x w (rest - rest / 2)
+    narrowed-lower more k =
         let q = ap (contentAt v) middle in
-        record { lo = L .lo; at = L .at; within = lower-half _ n x (L .lo) left (L .within) more (R .rise) (omega (arith, q)) }
+        record { lo = N .lo; at = N .at; within = lower-half _ n x (N .lo) rest (N .within) more (R .rise) (omega (arith, q)) }
 
-    pub left-one : left ≤ 1 → w ≡ base + stride * lastLe (rowAt v base stride) n x
-    left-one one = L .at ∙ ap (λ (i : ℕ). base + stride * i) (within-one _ n x (L .lo) left (L .within) one)
+    pub narrowed-one : rest ≤ 1 → w ≡ base + stride * lastLe (rowAt v base stride) n x
+    narrowed-one one = N .at ∙ ap (λ (i : ℕ). base + stride * i) (within-one _ n x (N .lo) rest (N .within) one)
 
 module _ {v : List ℕ} {t : Tables} (L : Laid v t) where
   -- the seconds of road k's points

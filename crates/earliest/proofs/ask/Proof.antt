@@ -27,8 +27,11 @@ part-search-end c = search needs
 search-requires : tie.Need-search-requires
 search-requires c κs = search needs
 
-answer-requires : tie.Need-answer-requires
-answer-requires c κs = roads-fit (c .before .before .before .before .before .search .ensures)
+enum-known-answer : tie.Need-enum-known-answer
+enum-known-answer c = search needs
+
+report-requires : tie.Need-report-requires
+report-requires c κs = search needs
 
 same-length : tie.Need-same-length
 same-length c = search needs
@@ -38,6 +41,19 @@ same-length-2 c = search needs
 
 returns : tie.Need-returns
 returns c = search needs
+
+closed-requires : tie.Need-closed-requires
+closed-requires c κs =
+    roads-fit (c .before .before .before .before .before .before .before .before .search .ensures) _ _ _ (c .before .before .answer .given .1)
+
+same-length-3 : tie.Need-same-length-3
+same-length-3 c = search needs
+
+same-length-4 : tie.Need-same-length-4
+same-length-4 c = search needs
+
+returns-2 : tie.Need-returns-2
+returns-2 c = search needs
 
 pub ask-spec : {M : Type 1} → statement M
 ask-spec =
@@ -51,7 +67,12 @@ ask-spec =
     part-search-start
     part-search-end
     search-requires
-    answer-requires
+    enum-known-answer
+    report-requires
     same-length
     same-length-2
-    returns)
+    returns
+    closed-requires
+    same-length-3
+    same-length-4
+    returns-2)

@@ -1,17 +1,17 @@
 use mathlib.Core.Logic.{⊎-elim}
 use native.Mathlib.Omega.{arith}
-use Rattle.travel.specs.Row.{Left, left-all, middle-held, left-upper, left-lower, left-one}
+use Rattle.travel.specs.Row.{Narrowed, narrowed-all, middle-held, narrowed-upper, narrowed-lower, narrowed-one}
 use Rattle.travel.proofs.last.last_at.Statement.{statement}
 use Rattle.travel.proofs.last.last_at.Tie as tie
 
 abbrev Inv-loop : tie.InvT-loop
-Inv-loop v base stride n x w₀ left₀ w left = Left v base stride n x w left
+Inv-loop v base stride n x w₀ rest₀ w rest = Narrowed v base stride n x w rest
 
 abbrev μ-loop : tie.MeasureT-loop
-μ-loop v base stride n x w₀ left₀ w left = left
+μ-loop v base stride n x w₀ rest₀ w rest = rest
 
 loop-holds : tie.Need-loop-holds Inv-loop μ-loop
-loop-holds c = left-all (c .before .pre)
+loop-holds c = narrowed-all (c .before .pre)
 
 mul-middle : tie.Need-mul-middle Inv-loop μ-loop
 mul-middle c =
@@ -31,8 +31,8 @@ content-requires c κs =
     let s = l .before .before in
     middle-held (s .pre) (l .loop .inv) (c .loop-test .taken)
 
-sub-left : tie.Need-sub-left Inv-loop μ-loop
-sub-left c = omega arith
+sub-rest : tie.Need-sub-rest Inv-loop μ-loop
+sub-rest c = omega arith
 
 loop-less : tie.Need-loop-less Inv-loop μ-loop
 loop-less c = let t = c .before .before .loop-test .taken in omega arith
@@ -44,14 +44,14 @@ loop-again c =
     let s = l .before .before in
     let e = c .before .content .ensures in
     ⊎-elim
-    (λ r. rw (r .1) (left-upper (s .pre) (l .loop .inv) t (omega (arith, e, r .0 .taken))))
-    (λ r. rw (r .1) (left-lower (s .pre) (l .loop .inv) t (omega (arith, e, r .0 .left))))
+    (λ r. rw (r .1) (narrowed-upper (s .pre) (l .loop .inv) t (omega (arith, e, r .0 .taken))))
+    (λ r. rw (r .1) (narrowed-lower (s .pre) (l .loop .inv) t (omega (arith, e, r .0 .left))))
     (c .if1 .came)
 
 returns : tie.Need-returns Inv-loop μ-loop
 returns c =
     let l = c .before in
-    left-one (l .before .before .pre) (l .loop .inv) (c .loop-test .left)
+    narrowed-one (l .before .before .pre) (l .loop .inv) (c .loop-test .left)
 
 pub last-at-spec : {M : Type 1} → statement M
 last-at-spec =
@@ -63,7 +63,7 @@ last-at-spec =
     mul-middle
     add-middle
     content-requires
-    sub-left
+    sub-rest
     loop-less
     loop-again
     returns)
