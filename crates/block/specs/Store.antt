@@ -7,7 +7,7 @@ use native.Mathlib.Omega.{arith}
 use native.Mathlib.Nat.{div-div-eq-div-mul, div-eq-of-lt}
 use lib.ListN.{length, getD, set, length-set}
 use lib.Seq.{getD-set-same, getD-set-other, set-getD}
-use Rattle.block.specs.Word.{wordAt, putWord}
+use Rattle.block.specs.Word.{wordFrom, wordAt, putWord}
 
 -- every element is a byte
 abbrev pub Bytes : List ℕ → Type 0
@@ -93,7 +93,7 @@ digits x h =
 
 -- what reads where x is written
 pub written-word : (v : List ℕ) (i x : ℕ) → x < 2 ^ 32 → Written v i x → wordAt v i ≡ x
-unfolding wordAt
+unfolding wordAt wordFrom
 written-word v i x h w =
     let a = w .first in
     let b = w .second in
@@ -104,7 +104,7 @@ written-word v i x h w =
 
 -- every other word reads as it did
 pub put-other : (v : List ℕ) (i x j : ℕ) → (j ≡ i → ⊥) → wordAt (putWord v i x) j ≡ wordAt v j
-unfolding wordAt
+unfolding wordAt wordFrom
 put-other v i x j ne =
     let a = put-byte v i x (4 * j) (λ e. ne (omega arith)) in
     let b = put-byte v i x (4 * j + 1) (λ e. ne (omega arith)) in
@@ -114,5 +114,5 @@ put-other v i x j ne =
 
 -- a word of bytes has 32 bits
 pub word-fits : (v : List ℕ) (i : ℕ) → Bytes v → wordAt v i < 2 ^ 32
-unfolding wordAt
+unfolding wordAt wordFrom
 word-fits v i b = omega (arith, b (4 * i), b (4 * i + 1), b (4 * i + 2), b (4 * i + 3))

@@ -3,10 +3,14 @@ use Prim.Native.Nat.{ℕ, _+_, _*_, _/_, _%_, _<_}
 use mathlib.Core.List.{List}
 use lib.ListN.{length, getD, set}
 
+-- the word that begins at byte `at`
+unfoldable pub wordFrom : List ℕ → ℕ → ℕ
+wordFrom v at =
+    getD v at 0 + 256 * getD v (at + 1) 0 + 65536 * getD v (at + 2) 0 + 16777216 * getD v (at + 3) 0
+
 -- word i
 unfoldable pub wordAt : List ℕ → ℕ → ℕ
-wordAt v i =
-    getD v (4 * i) 0 + 256 * getD v (4 * i + 1) 0 + 65536 * getD v (4 * i + 2) 0 + 16777216 * getD v (4 * i + 3) 0
+wordAt v i = wordFrom v (4 * i)
 
 -- the bytes with x as word i
 unfoldable pub putWord : List ℕ → ℕ → ℕ → List ℕ

@@ -6,7 +6,7 @@ use std::num::wrapping_sub_u32;
 ghost use mathlib.Core.Path.{_≡_};
 ghost use Prim.Native.Nat.{_+_, _*_, _/_, _%_, _≤_, _<_};
 ghost use lib.ListN.{length};
-ghost use Rattle.block.specs.Word.{wordAt, putWord, contentAt, mostWords, Holds};
+ghost use Rattle.block.specs.Word.{wordFrom, wordAt, putWord, contentAt, mostWords, Holds};
 ghost use Rattle.block.specs.Sums.{Summed, Gained};
 ghost use Rattle.block.specs.Lanes.{Joined};
 ghost use Rattle.block.specs.Whole.{whole};
@@ -20,12 +20,11 @@ fn wide(x: u8) -> u32
     x as u32
 }
 
-// Word i of v, least byte first.
-pub fn word(v: &[u8], i: usize) -> u32
-    requires { ⌜ 4 * i + 3 < length (now v) ⌝ }
-    ensures { λ r. ⌜ r ≡ wordAt (now (v .entry)) i ⌝ }
+// The word that begins at byte `at` of v, least byte first.
+fn word_from(v: &[u8], at: usize) -> u32
+    requires { ⌜ at + 3 < length (now v) ⌝ }
+    ensures { λ r. ⌜ r ≡ wordFrom (now (v .entry)) at ⌝ }
 {
-    let at = 4 * i;
     let b0 = wide(v[at]);
     let b1 = wide(v[at + 1]);
     let b2 = wide(v[at + 2]);
@@ -33,21 +32,30 @@ pub fn word(v: &[u8], i: usize) -> u32
     b0 + 256 * b1 + 65536 * b2 + 16777216 * b3
 }
 
-// Which word content word w is: two sums stand behind every 126 content words. Every record is read through this, so the division
-// is a multiplication and a shift: 532,611 / 2^26 is so little above 1 / 126 that w / 126 comes out for every w of 3,381 blocks.
-fn place(w: usize) -> usize
-    requires { ⌜ w < mostWords ⌝ }
-    ensures { λ r. ⌜ r ≡ w + 2 * (w / 126) ⌝ }
+// Word i of v.
+pub fn word(v: &[u8], i: usize) -> u32
+    requires { ⌜ 4 * i + 3 < length (now v) ⌝ }
+    ensures { λ r. ⌜ r ≡ wordAt (now (v .entry)) i ⌝ }
 {
-    w + 2 * (w * 532611 / 67108864)
+    word_from(v, 4 * i)
 }
 
-// Content word w of v.
+// Which block content word w stands in. Every record is read through this, so the division is a multiplication and a shift:
+// 532,611 / 2^26 is so little above 1 / 126 that w / 126 comes out for every w of 3,381 blocks.
+fn block_of(w: usize) -> usize
+    requires { ⌜ w < mostWords ⌝ }
+    ensures { λ r. ⌜ r ≡ w / 126 ⌝ }
+{
+    w * 532611 / 67108864
+}
+
+// Content word w of v: two sums, 8 bytes, stand behind the content of each block before. The place is a sum of bytes and not of words,
+// since the compiler makes such a sum a part of the reading instruction.
 pub fn content(v: &[u8], w: usize) -> u32
     requires { ⌜ Holds (now v) w ⌝ }
     ensures { λ r. ⌜ r ≡ contentAt (now (v .entry)) w ⌝ }
 {
-    word(v, place(w))
+    word_from(v, 4 * w + 8 * block_of(w))
 }
 
 pub struct Pair {
@@ -60,10 +68,10 @@ pub fn content_pair(v: &[u8], w: usize) -> Pair
     requires { ⌜ (w % 2 ≡ 0) × Holds (now v) (w + 1) ⌝ }
     ensures { λ r. ⌜ (r .first ≡ contentAt (now (v .entry)) w) × (r .second ≡ contentAt (now (v .entry)) (w + 1)) ⌝ }
 {
-    let at = place(w);
+    let at = 4 * w + 8 * block_of(w);
     Pair {
-        first: word(v, at),
-        second: word(v, at + 1),
+        first: word_from(v, at),
+        second: word_from(v, at + 4),
     }
 }
 

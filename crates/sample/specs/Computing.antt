@@ -2,7 +2,7 @@
 use Rattle.block.specs.Choose.{choose, both}
 use Rattle.block.specs.First.{firstNot}
 use Rattle.block.specs.Good.{good}
-use Rattle.block.specs.Word.{wordAt, putWord, blockWord, contentAt}
+use Rattle.block.specs.Word.{wordFrom, wordAt, putWord, blockWord, contentAt}
 use Rattle.block.specs.Sums.{sumA, sumB}
 use Rattle.block.specs.Whole.{whole}
 use Rattle.block.specs.Seal.{sealed, sealTo}
@@ -27,7 +27,7 @@ use Rattle.sample.specs.Bytes.{bytesOf, oneBlock, roads, points, lowEdge
 unfoldable pub computing : Unit {0}
 unfolding
     bytesOf oneBlock roads points lowEdges firstPieces sample onePiece
-    choose both firstNot wordAt putWord blockWord contentAt sumA sumB good whole sealed sealTo
+    choose both firstNot wordFrom wordAt putWord blockWord contentAt sumA sumB good whole sealed sealTo
     volumeOf headFits fewestBlocks fillerZero countsRule endsFit begins placed allObey
     pointFits nextSecond nextDuration pointRule roadRule
     startFits roadJoins meet pairJoins sameEnds newEnds pieceFits pieceRule pieceSpan greatestSpan spanRule edgeRule
