@@ -12,8 +12,7 @@ use volume::tables::EMPTY;
 use volume::tables::Tables;
 use volume::tables::edge_from;
 use volume::tables::edge_to;
-use volume::tables::road_from;
-use volume::tables::road_to;
+use volume::tables::road_at;
 use volume::tables::tables_of;
 ghost use mathlib.Core.Path.{_≡_};
 ghost use Prim.Native.Nat.{_<_};
@@ -73,9 +72,19 @@ fn road_fault(
     requires { ⌜ k < volumeOf (now v) .roads ⌝ }
     ensures { λ r. ⌜ r ≡ roadFault (volumeOf (now (v .entry))) k ⌝ }
 {
-    let u = road_from(v, t, k);
-    let w = road_to(v, t, k);
-    let c = cover_of(v, t, first, next, digest, edges, u, w, k, EMPTY);
+    let road = road_at(v, t, k);
+    let c = cover_of(
+        v,
+        t,
+        first,
+        next,
+        digest,
+        edges,
+        road.from,
+        road.to,
+        k,
+        EMPTY,
+    );
     of_road(k, c)
 }
 

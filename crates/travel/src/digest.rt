@@ -7,8 +7,7 @@ use volume::tables::PIECE_WORDS;
 use volume::tables::Tables;
 use volume::tables::edge_pieces;
 use volume::tables::point_at;
-use volume::tables::road_first;
-use volume::tables::road_points;
+use volume::tables::road_at;
 ghost use mathlib.Core.Path.{_≡_};
 ghost use Prim.Native.Nat.{_+_, _^_, _≤_, _<_};
 ghost use lib.ListN.{length, getD};
@@ -30,8 +29,9 @@ fn steady(v: &[u8], t: Tables, k: usize) -> u64
     requires { ⌜ k < volumeOf (now v) .roads ⌝ }
     ensures { λ r. ⌜ (r ≡ steadyOf (volumeOf (now (v .entry))) k) × (r < 2 ^ 32) ⌝ }
 {
-    if road_points(v, t, k) == 1 {
-        return point_at(v, t, road_first(v, t, k)).duration;
+    let road = road_at(v, t, k);
+    if road.points == 1 {
+        return point_at(v, t, road.first).duration;
     }
     0
 }

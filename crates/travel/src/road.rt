@@ -4,8 +4,7 @@ use volume::tables::PERIOD;
 use volume::tables::POINT_WORDS;
 use volume::tables::Tables;
 use volume::tables::point_at;
-use volume::tables::road_first;
-use volume::tables::road_points;
+use volume::tables::road_at;
 ghost use mathlib.Core.Path.{_≡_};
 ghost use Prim.Native.Nat.{_^_, _<_};
 ghost use Rattle.volume.specs.Format.{volumeOf, Laid};
@@ -52,8 +51,9 @@ pub fn road_duration(v: &[u8], t: Tables, k: usize, x: u64) -> u64
     requires { ⌜ k < volumeOf (now v) .roads ⌝ }
     ensures { λ r. ⌜ r ≡ roadTime (volumeOf (now (v .entry))) k x ⌝ }
 {
-    let first = road_first(v, t, k);
-    let n = road_points(v, t, k);
+    let road = road_at(v, t, k);
+    let first = road.first;
+    let n = road.points;
     let start = point_at(v, t, first);
     if n == 1 {
         return start.duration;

@@ -8,6 +8,7 @@ use lib.ListN.{length}
 use Rattle.block.specs.Word.{contentAt, mostWords}
 use Rattle.volume.specs.declared.tables.Counts.{Counts}
 use Rattle.volume.specs.declared.tables.Tables.{Tables}
+use Rattle.volume.specs.declared.tables.Road.{Road}
 use Rattle.volume.specs.declared.tables.Point.{Point}
 
 -- the seconds of a day
@@ -145,6 +146,15 @@ pub record Laid (v : List ℕ) (t : Tables) : Type 0 where
   pub pieces : t .pieces ≡ piecesAt (volumeOf v .roads) (volumeOf v .points) (volumeOf v .edges)
   pub room : wordsOf (volumeOf v) ≤ 126 * (length v / 512)
   pub limit : wordsOf (volumeOf v) ≤ mostWords
+
+-- q is road k
+pub record IsRoad (vol : Volume) (k : ℕ) (q : Road) : Type 0 where
+  pub from : q .from ≡ vol .road-from k
+  pub to : q .to ≡ vol .road-to k
+  pub first : q .first ≡ vol .road-first k
+  pub points : q .points ≡ vol .road-points k
+  pub first-fits : q .first < 2 ^ 32
+  pub points-fit : q .points < 2 ^ 32
 
 -- q is point i
 pub record IsPoint (vol : Volume) (i : ℕ) (q : Point) : Type 0 where

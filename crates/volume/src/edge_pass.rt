@@ -30,8 +30,8 @@ fn pass_keeping(v: &[u8], t: Tables, c: Counts, repeat: usize, kept: &mut [u16])
         if !edge_fits(v, t, kept, c, e, begin) {
             return Pass::Fault(e);
         }
-        keep(v, t, kept, e);
         begin += edge_pieces(v, t, e);
+        keep(v, t, kept, e);
         e += 1;
     }
     if e < c.edges {

@@ -17,8 +17,7 @@ use crate::tables::edge_to;
 use crate::tables::piece_left;
 use crate::tables::piece_right;
 use crate::tables::piece_start;
-use crate::tables::road_from;
-use crate::tables::road_to;
+use crate::tables::road_at;
 ghost use mathlib.Core.Path.{_≡_};
 ghost use Prim.Native.Nat.{_+_, _≤_, _<_, max};
 ghost use Rattle.volume.specs.Format.{volumeOf, Counted, Laid, day};
@@ -44,10 +43,11 @@ fn road_joins(v: &[u8], t: Tables, roads: usize, k: usize, from: usize, to: usiz
     if roads <= k {
         return false;
     }
-    if road_from(v, t, k) != from {
+    let road = road_at(v, t, k);
+    if road.from != from {
         return false;
     }
-    road_to(v, t, k) == to
+    road.to == to
 }
 
 // Do an edge from l0 to l1 and one from r0 to r1 lead in turn from `from` to `to`, and meet below both?

@@ -3,10 +3,7 @@ use crate::tables::Counts;
 use crate::tables::PERIOD;
 use crate::tables::Tables;
 use crate::tables::point_at;
-use crate::tables::road_first;
-use crate::tables::road_from;
-use crate::tables::road_points;
-use crate::tables::road_to;
+use crate::tables::road_at;
 ghost use mathlib.Core.Path.{_≡_};
 ghost use Prim.Native.Nat.{_+_, _^_, _≤_, _<_};
 ghost use Rattle.block.specs.First.{allBelow};
@@ -92,13 +89,10 @@ fn road_fits(v: &[u8], t: Tables, c: Counts, k: usize, begin: usize) -> bool
     requires { ⌜ begin ≡ begins (volumeOf (now v) .road-first) (volumeOf (now v) .road-points) k ⌝ }
     ensures { λ r. ⌜ r ≡ roadRule (volumeOf (now (v .entry))) k ⌝ }
 {
-    let from = road_from(v, t, k);
-    let to = road_to(v, t, k);
-    if ends_fit(c.junctions, from, to) {
-        let first = road_first(v, t, k);
-        let n = road_points(v, t, k);
-        if is_placed(begin, c.points, first, n) {
-            return points_fit(v, t, first, n);
+    let road = road_at(v, t, k);
+    if ends_fit(c.junctions, road.from, road.to) {
+        if is_placed(begin, c.points, road.first, road.points) {
+            return points_fit(v, t, road.first, road.points);
         }
     }
     false
@@ -117,7 +111,8 @@ pub fn roads_pass(v: &[u8], t: Tables, c: Counts) -> Pass
         if !road_fits(v, t, c, k, begin) {
             return Pass::Fault(k);
         }
-        begin = road_first(v, t, k) + road_points(v, t, k);
+        let road = road_at(v, t, k);
+        begin = road.first + road.points;
         k += 1;
     }
     if begin != c.points {

@@ -1,10 +1,10 @@
-// The tables of a volume, with one reader for each field of a record. How many words a record has and
-// where each table begins is said here and in specs/Format.antt, and nowhere else.
+// The tables of a volume, with the readers of their records: a road and a point whole, an edge and a piece by field. How many words a
+// record has and where each table begins is said here and in specs/Format.antt, and nowhere else.
 use block::content;
 use block::content_pair;
 ghost use mathlib.Core.Path.{_≡_};
-ghost use Prim.Native.Nat.{_^_, _<_};
-ghost use Rattle.volume.specs.Format.{volumeOf, Laid, Few, IsPoint, tablesOf, wordsIn};
+ghost use Prim.Native.Nat.{_+_, _*_, _^_, _<_};
+ghost use Rattle.volume.specs.Format.{volumeOf, Laid, Few, IsRoad, IsPoint, tablesOf, wordsIn};
 
 const HEAD_WORDS: usize = 6;
 
@@ -42,6 +42,13 @@ pub struct Tables {
     pub pieces: usize,
 }
 
+pub struct Road {
+    pub from: usize,
+    pub to: usize,
+    pub first: usize,
+    pub points: usize,
+}
+
 // A second of day and the duration there.
 pub struct Point {
     pub second: u64,
@@ -70,40 +77,30 @@ pub fn words_of(c: Counts) -> usize
     tables_of(c).pieces + PIECE_WORDS * c.pieces
 }
 
-// The junction where road k begins.
-pub fn road_from(v: &[u8], t: Tables, k: usize) -> usize
-    requires { ⌜ Laid (now v) t ⌝ }
-    requires { ⌜ k < volumeOf (now v) .roads ⌝ }
-    ensures { λ r. ⌜ (r ≡ volumeOf (now (v .entry)) .road-from k) × (r < 2 ^ 32) ⌝ }
+// The content word at which record i begins, of those of so many words each from word `base` on. Its number fits 32 bits, which the
+// compiler learns from the casts: it then reads a word by three instructions and not by five.
+fn record_at(base: usize, words: usize, i: usize) -> usize
+    requires { ⌜ base + words * i < 2 ^ 32 ⌝ }
+    ensures { λ r. ⌜ r ≡ base + words * i ⌝ }
 {
-    content(v, HEAD_WORDS + ROAD_WORDS * k) as usize
+    (base + words * i) as u32 as usize
 }
 
-// The junction where road k ends.
-pub fn road_to(v: &[u8], t: Tables, k: usize) -> usize
+// Road k. Its first word stands at an even place, so its four words are two pairs.
+pub fn road_at(v: &[u8], t: Tables, k: usize) -> Road
     requires { ⌜ Laid (now v) t ⌝ }
     requires { ⌜ k < volumeOf (now v) .roads ⌝ }
-    ensures { λ r. ⌜ (r ≡ volumeOf (now (v .entry)) .road-to k) × (r < 2 ^ 32) ⌝ }
+    ensures { λ r. ⌜ IsRoad (volumeOf (now (v .entry))) k r ⌝ }
 {
-    content(v, HEAD_WORDS + ROAD_WORDS * k + 1) as usize
-}
-
-// The first point of road k.
-pub fn road_first(v: &[u8], t: Tables, k: usize) -> usize
-    requires { ⌜ Laid (now v) t ⌝ }
-    requires { ⌜ k < volumeOf (now v) .roads ⌝ }
-    ensures { λ r. ⌜ (r ≡ volumeOf (now (v .entry)) .road-first k) × (r < 2 ^ 32) ⌝ }
-{
-    content(v, HEAD_WORDS + ROAD_WORDS * k + 2) as usize
-}
-
-// How many points road k has.
-pub fn road_points(v: &[u8], t: Tables, k: usize) -> usize
-    requires { ⌜ Laid (now v) t ⌝ }
-    requires { ⌜ k < volumeOf (now v) .roads ⌝ }
-    ensures { λ r. ⌜ (r ≡ volumeOf (now (v .entry)) .road-points k) × (r < 2 ^ 32) ⌝ }
-{
-    content(v, HEAD_WORDS + ROAD_WORDS * k + 3) as usize
+    let w = record_at(HEAD_WORDS, ROAD_WORDS, k);
+    let ends = content_pair(v, w);
+    let points = content_pair(v, w + 2);
+    Road {
+        from: ends.first as usize,
+        to: ends.second as usize,
+        first: points.first as usize,
+        points: points.second as usize,
+    }
 }
 
 // Point i of all.
@@ -113,7 +110,7 @@ pub fn point_at(v: &[u8], t: Tables, i: usize) -> Point
     ensures { λ r. ⌜ IsPoint (volumeOf (now (v .entry))) i r ⌝ }
 {
     let base = t.points;
-    let words = content_pair(v, base + POINT_WORDS * i);
+    let words = content_pair(v, record_at(base, POINT_WORDS, i));
     Point {
         second: words.first as u64,
         duration: words.second as u64,
@@ -127,7 +124,7 @@ pub fn edge_from(v: &[u8], t: Tables, e: usize) -> usize
     ensures { λ r. ⌜ (r ≡ volumeOf (now (v .entry)) .edge-from e) × (r < 2 ^ 32) ⌝ }
 {
     let base = t.edges;
-    content(v, base + EDGE_WORDS * e) as usize
+    content(v, record_at(base, EDGE_WORDS, e)) as usize
 }
 
 // The junction where edge e ends.
@@ -137,7 +134,7 @@ pub fn edge_to(v: &[u8], t: Tables, e: usize) -> usize
     ensures { λ r. ⌜ (r ≡ volumeOf (now (v .entry)) .edge-to e) × (r < 2 ^ 32) ⌝ }
 {
     let base = t.edges;
-    content(v, base + EDGE_WORDS * e + 1) as usize
+    content(v, record_at(base, EDGE_WORDS, e) + 1) as usize
 }
 
 // The first piece of edge e.
@@ -147,7 +144,7 @@ pub fn edge_first(v: &[u8], t: Tables, e: usize) -> usize
     ensures { λ r. ⌜ (r ≡ volumeOf (now (v .entry)) .edge-first e) × (r < 2 ^ 32) ⌝ }
 {
     let base = t.edges;
-    content(v, base + EDGE_WORDS * e + 2) as usize
+    content(v, record_at(base, EDGE_WORDS, e) + 2) as usize
 }
 
 // How many pieces edge e has.
@@ -157,7 +154,7 @@ pub fn edge_pieces(v: &[u8], t: Tables, e: usize) -> usize
     ensures { λ r. ⌜ (r ≡ volumeOf (now (v .entry)) .edge-pieces e) × (r < 2 ^ 32) ⌝ }
 {
     let base = t.edges;
-    content(v, base + EDGE_WORDS * e + 3) as usize
+    content(v, record_at(base, EDGE_WORDS, e) + 3) as usize
 }
 
 // The span of edge e.
@@ -167,7 +164,7 @@ pub fn edge_span(v: &[u8], t: Tables, e: usize) -> usize
     ensures { λ r. ⌜ (r ≡ volumeOf (now (v .entry)) .edge-span e) × (r < 2 ^ 32) ⌝ }
 {
     let base = t.edges;
-    content(v, base + EDGE_WORDS * e + 4) as usize
+    content(v, record_at(base, EDGE_WORDS, e) + 4) as usize
 }
 
 // The second at which piece p starts.
@@ -177,7 +174,7 @@ pub fn piece_start(v: &[u8], t: Tables, p: usize) -> u64
     ensures { λ r. ⌜ (r ≡ volumeOf (now (v .entry)) .piece-start p) × (r < 2 ^ 32) ⌝ }
 {
     let base = t.pieces;
-    content(v, base + PIECE_WORDS * p) as u64
+    content(v, record_at(base, PIECE_WORDS, p)) as u64
 }
 
 // The left of piece p: an edge, or a road where the middle is empty.
@@ -187,7 +184,7 @@ pub fn piece_left(v: &[u8], t: Tables, p: usize) -> usize
     ensures { λ r. ⌜ (r ≡ volumeOf (now (v .entry)) .piece-left p) × (r < 2 ^ 32) ⌝ }
 {
     let base = t.pieces;
-    content(v, base + PIECE_WORDS * p + LEFT) as usize
+    content(v, record_at(base, PIECE_WORDS, p) + LEFT) as usize
 }
 
 // The right of piece p: an edge, or EMPTY.
@@ -197,5 +194,5 @@ pub fn piece_right(v: &[u8], t: Tables, p: usize) -> usize
     ensures { λ r. ⌜ (r ≡ volumeOf (now (v .entry)) .piece-right p) × (r < 2 ^ 32) ⌝ }
 {
     let base = t.pieces;
-    content(v, base + PIECE_WORDS * p + RIGHT) as usize
+    content(v, record_at(base, PIECE_WORDS, p) + RIGHT) as usize
 }

@@ -7,16 +7,13 @@ use Rattle.volume.specs.Format.{volumeOf}
 use Rattle.full.proofs.road_fault.Statement.{statement}
 use Rattle.full.proofs.road_fault.Tie as tie
 
-road-from-requires : tie.Need-road-from-requires
-road-from-requires c κs = search needs
-
-road-to-requires : tie.Need-road-to-requires
-road-to-requires c κs = search needs
+road-at-requires : tie.Need-road-at-requires
+road-at-requires c κs = search needs
 
 cover-of-requires : tie.Need-cover-of-requires
 cover-of-requires c κs =
-    let s = c .before .before .before .before .before .before in
-    (s .pre .0, (s .pre .1 .0, (omega (arith, c .before .road-from .ensures .0, s .pre .0 .sound .road (s .args .k) (s .pre .1 .1) .from-in), names-road (volumeOf (s .args .v .now)) (s .args .k) (s .pre .1 .1))))
+    let s = c .before .before .before .before .before in
+    (s .pre .0, (s .pre .1 .0, (omega (arith, c .road-at .ensures .from, s .pre .0 .sound .road (s .args .k) (s .pre .1 .1) .from-in), names-road (volumeOf (s .args .v .now)) (s .args .k) (s .pre .1 .1))))
 
 of-road-requires : tie.Need-of-road-requires
 of-road-requires c κs = search needs
@@ -24,11 +21,10 @@ of-road-requires c κs = search needs
 returns : tie.Need-returns
 returns c =
     let f = c .before in
-    let s = f .before .before .before .before .before .before .before in
+    let s = f .before .before .before .before .before .before in
     c .of-road .ensures
-    ∙ road-fault-by (volumeOf (s .args .v .now)) (s .args .k) _ _ (f .before .before .road-from .ensures .0) (f .before .road-to .ensures .0) _ (f .cover-of .ensures)
+    ∙ road-fault-by (volumeOf (s .args .v .now)) (s .args .k) _ _ (f .before .road-at .ensures .from) (f .before .road-at .ensures .to) _ (f .cover-of .ensures)
 
 pub road-fault-spec : {M : Type 1} → statement M
 road-fault-spec =
-    tie.close
-    (tie.spec road-from-requires road-to-requires cover-of-requires of-road-requires returns)
+    tie.close (tie.spec road-at-requires cover-of-requires of-road-requires returns)

@@ -10,6 +10,9 @@ edge-span-requires c κs = search needs
 mul-if1 : tie.Need-mul-if1
 mul-if1 c = search needs
 
+add-if1 : tie.Need-add-if1
+add-if1 c = search needs
+
 count-roads-requires : tie.Need-count-roads-requires
 count-roads-requires c κs = search needs
 
@@ -44,6 +47,7 @@ edge-lasts-spec =
     (tie.spec
     edge-span-requires
     mul-if1
+    add-if1
     count-roads-requires
     returns
     slice-aggregate-edge-digested

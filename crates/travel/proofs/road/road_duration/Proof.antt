@@ -8,31 +8,28 @@ use borrow.Author.Needs.{needs}
 use Rattle.travel.proofs.road.road_duration.Statement.{statement}
 use Rattle.travel.proofs.road.road_duration.Tie as tie
 
-road-first-requires : tie.Need-road-first-requires
-road-first-requires c κs = search needs
-
-road-points-requires : tie.Need-road-points-requires
-road-points-requires c κs = search needs
+road-at-requires : tie.Need-road-at-requires
+road-at-requires c κs = search needs
 
 point-at-requires : tie.Need-point-at-requires
 point-at-requires c κs =
     let d = c in
-    let s = d .before .before .before in
-    let R = of-road (s .pre .1 .0) (s .pre .1 .1) (d .before .road-first .ensures .0) (d .road-points .ensures .0) in
+    let s = d .before .before in
+    let R = of-road (s .pre .1 .0) (s .pre .1 .1) (d .road-at .ensures .first) (d .road-at .ensures .points) in
     (s .pre .0, omega (arith, points-from R .inside, points-from R .points .some))
 
 returns : tie.Need-returns
 returns c =
     let d = c .before .before in
-    let s = d .before .before .before in
-    let R = of-road (s .pre .1 .0) (s .pre .1 .1) (d .before .road-first .ensures .0) (d .road-points .ensures .0) in
+    let s = d .before .before in
+    let R = of-road (s .pre .1 .0) (s .pre .1 .1) (d .road-at .ensures .first) (d .road-at .ensures .points) in
     one-is R (s .args .x) _ refl _ (c .if1 .taken) (c .before .point-at .ensures .duration)
 
 sub-from-point : tie.Need-sub-from-point
 sub-from-point c =
     let d = c .before .before .before .before in
-    let s = d .before .before .before in
-    let R = of-road (s .pre .1 .0) (s .pre .1 .1) (d .before .road-first .ensures .0) (d .road-points .ensures .0) in
+    let s = d .before .before in
+    let R = of-road (s .pre .1 .0) (s .pre .1 .1) (d .road-at .ensures .first) (d .road-at .ensures .points) in
     points-from R .points .some
 
 add-from-point : tie.Need-add-from-point
@@ -41,8 +38,8 @@ add-from-point c = search needs
 from-point-requires : tie.Need-from-point-requires
 from-point-requires c κs =
     let d = c .before .before .before .before in
-    let s = d .before .before .before in
-    let R = of-road (s .pre .1 .0) (s .pre .1 .1) (d .before .road-first .ensures .0) (d .road-points .ensures .0) in
+    let s = d .before .before in
+    let R = of-road (s .pre .1 .0) (s .pre .1 .1) (d .road-at .ensures .first) (d .road-at .ensures .points) in
     let P = period-is (s .args .v .now) in (
       s .pre .0,
       (
@@ -54,8 +51,8 @@ from-point-requires c κs =
 returns-2 : tie.Need-returns-2
 returns-2 c =
     let d = c .before .before .before .before .before in
-    let s = d .before .before .before in
-    let R = of-road (s .pre .1 .0) (s .pre .1 .1) (d .before .road-first .ensures .0) (d .road-points .ensures .0) in
+    let s = d .before .before in
+    let R = of-road (s .pre .1 .0) (s .pre .1 .1) (d .road-at .ensures .first) (d .road-at .ensures .points) in
     let P = period-is (s .args .v .now) in
     early-is R (s .args .x) _ (same-second (s .args .x) P) _ (omega (arith, c .before .before .before .before .point-at .ensures .second)) (omega arith)
     _ (c .from-point .ensures)
@@ -72,8 +69,8 @@ cast-last-at c = search needs
 last-at-requires : tie.Need-last-at-requires
 last-at-requires c κs =
     let d = c .before .before .before .before in
-    let s = d .before .before .before in
-    let R = of-road (s .pre .1 .0) (s .pre .1 .1) (d .before .road-first .ensures .0) (d .road-points .ensures .0) in
+    let s = d .before .before in
+    let R = of-road (s .pre .1 .0) (s .pre .1 .1) (d .road-at .ensures .first) (d .road-at .ensures .points) in
     seconds-row (s .pre .0) R _ refl _ (omega (arith, c .before .before .before .point-at .ensures .second))
 
 sub-from-point-2 : tie.Need-sub-from-point-2
@@ -82,8 +79,8 @@ sub-from-point-2 c = omega (arith, c .last-at .ensures)
 from-point-requires-2 : tie.Need-from-point-requires-2
 from-point-requires-2 c κs =
     let d = c .before .before .before .before .before in
-    let s = d .before .before .before in
-    let R = of-road (s .pre .1 .0) (s .pre .1 .1) (d .before .road-first .ensures .0) (d .road-points .ensures .0) in
+    let s = d .before .before in
+    let R = of-road (s .pre .1 .0) (s .pre .1 .1) (d .road-at .ensures .first) (d .road-at .ensures .points) in
     let i = seconds-last (s .pre .0) R _ refl _ _ (c .last-at .ensures) in (
       s .pre .0,
       (
@@ -95,8 +92,8 @@ from-point-requires-2 c κs =
 returns-3 : tie.Need-returns-3
 returns-3 c =
     let d = c .before .before .before .before .before .before in
-    let s = d .before .before .before in
-    let R = of-road (s .pre .1 .0) (s .pre .1 .1) (d .before .road-first .ensures .0) (d .road-points .ensures .0) in
+    let s = d .before .before in
+    let R = of-road (s .pre .1 .0) (s .pre .1 .1) (d .road-at .ensures .first) (d .road-at .ensures .points) in
     let i = seconds-last (s .pre .0) R _ refl _ _ (c .before .last-at .ensures) in
     late-is R (s .args .x) _ (same-second (s .args .x) (period-is (s .args .v .now))) _ (omega (arith, c .before .before .before .before .before .point-at .ensures .second)) i
     _ (c .from-point2 .ensures)
@@ -105,8 +102,7 @@ pub road-duration-spec : {M : Type 1} → statement M
 road-duration-spec =
     tie.close
     (tie.spec
-    road-first-requires
-    road-points-requires
+    road-at-requires
     point-at-requires
     returns
     sub-from-point

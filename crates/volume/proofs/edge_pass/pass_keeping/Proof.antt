@@ -49,30 +49,29 @@ returns c =
     let bad = sym (c .before .edge-fits .ensures) ∙ not-true _ (c .if1 .taken) in
     sym (pass-fault (edgeRule vol) (vol .edge-first) (vol .edge-pieces) (vol .edges) (vol .pieces) (l .loop .e) (omega (arith, s .pre .1 .1 .1 .0 .inside, c .before .before .before .loop-test .taken)) bad (l .loop .inv .1))
 
-keep-requires : tie.Need-keep-requires Inv-loop μ-loop
-keep-requires c κs =
-    let l = c .before .before .before .before .before in
-    let s = l .before .before .before in
-    let vol = volumeOf (s .args .v .now) in
-    let in-edges : l .loop .e < vol .edges = omega (arith, s .pre .1 .1 .1 .0 .inside, c .before .before .before .before .loop-test .taken) in
-    let fine = sym (c .before .before .edge-fits .ensures) ∙ not-false _ (c .before .if1 .left) in
-    (s .pre .0, (in-edges, (short-edge vol (l .loop .e) (omega (arith, s .pre .1 .1 .0 .junctions, s .pre .1 .0 .junctions)) fine, omega (arith, l .loop .inv .3 .room))))
-
 edge-pieces-requires : tie.Need-edge-pieces-requires Inv-loop μ-loop
 edge-pieces-requires c κs =
-    let l = c .before .before .before .before .before .before .before .before in
+    let l = c .before .before .before .before in
     let s = l .before .before .before in
-    (s .pre .0, omega (arith, s .pre .1 .1 .1 .0 .inside, c .before .before .before .before .before .before .before .loop-test .taken))
+    (s .pre .0, omega (arith, s .pre .1 .1 .1 .0 .inside, c .before .before .before .loop-test .taken))
 
 add-begin : tie.Need-add-begin Inv-loop μ-loop
 add-begin c =
-    let k = c .before .before .before in
-    let l = k .before .before .before .before .before .before in
+    let l = c .before .before .before .before .before in
     let s = l .before .before .before in
     let vol = volumeOf (s .args .v .now) in
-    let fine = sym (k .before .before .before .edge-fits .ensures) ∙ not-false _ (k .before .before .if1 .left) in
+    let fine = sym (c .before .before .edge-fits .ensures) ∙ not-false _ (c .before .if1 .left) in
     let place = placed-fact _ _ _ _ (edge-tests vol (l .loop .e) fine .place) in
     omega (arith, place .begins-at, place .inside, l .loop .inv .2, c .edge-pieces .ensures .0, s .pre .1 .0 .pieces, s .pre .1 .1 .0 .pieces)
+
+keep-requires : tie.Need-keep-requires Inv-loop μ-loop
+keep-requires c κs =
+    let l = c .before .before .before .before .before .before in
+    let s = l .before .before .before in
+    let vol = volumeOf (s .args .v .now) in
+    let in-edges : l .loop .e < vol .edges = omega (arith, s .pre .1 .1 .1 .0 .inside, c .before .before .before .before .before .loop-test .taken) in
+    let fine = sym (c .before .before .before .edge-fits .ensures) ∙ not-false _ (c .before .before .if1 .left) in
+    (s .pre .0, (in-edges, (short-edge vol (l .loop .e) (omega (arith, s .pre .1 .1 .0 .junctions, s .pre .1 .0 .junctions)) fine, omega (arith, l .loop .inv .3 .room))))
 
 add-e : tie.Need-add-e Inv-loop μ-loop
 add-e c = search needs
@@ -82,16 +81,17 @@ loop-less c = search needs
 
 loop-again : tie.Need-loop-again Inv-loop μ-loop
 loop-again c =
-    let k = c .before .before .before in
-    let l = k .before .before .before .before .before .before in
+    let k = c .before .before in
+    let p = k .before .before in
+    let l = p .before .before .before .before .before in
     let s = l .before .before .before in
     let vol = volumeOf (s .args .v .now) in
     let e = l .loop .e in
-    let in-edges : e < vol .edges = omega (arith, s .pre .1 .1 .1 .0 .inside, k .before .before .before .before .before .loop-test .taken) in
-    let fine = sym (k .before .before .before .edge-fits .ensures) ∙ not-false _ (k .before .before .if1 .left) in (
+    let in-edges : e < vol .edges = omega (arith, s .pre .1 .1 .1 .0 .inside, p .before .before .before .before .loop-test .taken) in
+    let fine = sym (p .before .before .edge-fits .ensures) ∙ not-false _ (p .before .if1 .left) in (
       search needs,
       first-go (edgeRule vol) (vol .edges) e in-edges fine (l .loop .inv .1),
-      ap₂ _+_ (l .loop .inv .2) (c .edge-pieces .ensures .0) ∙ sym (begin-next vol e fine),
+      ap₂ _+_ (l .loop .inv .2) (p .edge-pieces .ensures .0) ∙ sym (begin-next vol e fine),
       rw (k .keep .ensures) (kept-next vol e (l .loop .kept) (l .loop .inv .3) in-edges),
       ap length (k .keep .ensures) ∙ keeping-length vol e (l .loop .kept) ∙ l .loop .inv .4,
     )
@@ -146,9 +146,9 @@ pass-keeping-spec =
     edge-fits-requires
     same-length
     returns
-    keep-requires
     edge-pieces-requires
     add-begin
+    keep-requires
     add-e
     loop-less
     loop-again

@@ -15,31 +15,27 @@ returns c =
     let a = c .before .before .args in
     sym (both-no _ (le-ltb (a .k) (volumeOf (a .v .now) .roads) (search needs)))
 
-road-from-requires : tie.Need-road-from-requires
-road-from-requires c κs = search needs
+road-at-requires : tie.Need-road-at-requires
+road-at-requires c κs = search needs
 
 returns-2 : tie.Need-returns-2
 unfolding roadJoins
 returns-2 c =
-    let a = c .before .before .before .before .args in
-    let f = c .before .road-from .ensures .0 in
+    let a = c .before .before .before .before .before .args in
+    let f = c .before .before .road-at .ensures .from in
     sym
     (both-yes _ (lt-ltb (a .k) (volumeOf (a .v .now) .roads) (search needs))
     ∙ both-no _ (ne-eqb _ _ (λ z. c .if2 .taken (f ∙ z))))
 
-road-to-requires : tie.Need-road-to-requires
-road-to-requires c κs = search needs
-
 returns-3 : tie.Need-returns-3
 unfolding roadJoins
 returns-3 c =
-    let a = c .before .before .before .before .before .args in
-    let f = c .before .before .road-from .ensures .0 in
+    let a = c .before .before .before .before .before .before .args in
+    let road = c .before .before .before .road-at .ensures in
     sym
     (both-yes _ (lt-ltb (a .k) (volumeOf (a .v .now) .roads) (search needs))
-    ∙ both-yes _ (eq-eqb _ _ (sym f ∙ c .before .if2 .left))
-    ∙ ap (λ (j : ℕ). eqb j (a .to)) (sym (c .road-to .ensures .0)))
+    ∙ both-yes _ (eq-eqb _ _ (sym (road .from) ∙ c .before .if2 .left))
+    ∙ ap (λ (j : ℕ). eqb j (a .to)) (sym (road .to)))
 
 pub road-joins-spec : {M : Type 1} → statement M
-road-joins-spec =
-    tie.close (tie.spec returns road-from-requires returns-2 road-to-requires returns-3)
+road-joins-spec = tie.close (tie.spec returns road-at-requires returns-2 returns-3)

@@ -37,11 +37,8 @@ returns c =
     let bad = sym (c .before .road-fits .ensures) ∙ not-true _ (c .if1 .taken) in
     sym (pass-fault (roadRule vol) (vol .road-first) (vol .road-points) (vol .roads) (vol .points) (l .loop .k) (omega (arith, l .loop .inv .1)) bad (l .loop .inv .2))
 
-road-first-requires : tie.Need-road-first-requires Inv-loop μ-loop
-road-first-requires c κs = search needs
-
-road-points-requires : tie.Need-road-points-requires Inv-loop μ-loop
-road-points-requires c κs = search needs
+road-at-requires : tie.Need-road-at-requires Inv-loop μ-loop
+road-at-requires c κs = search needs
 
 add-begin : tie.Need-add-begin Inv-loop μ-loop
 add-begin c = search needs
@@ -56,11 +53,12 @@ loop-again : tie.Need-loop-again Inv-loop μ-loop
 loop-again c =
     let l = c .before .before .before .before .before in
     let vol = volumeOf (l .before .before .args .v .now) in
+    let road = c .before .road-at .ensures in
     let fine = sym (c .before .before .before .road-fits .ensures) ∙ not-false _ (c .before .before .if1 .left) in (
       search needs,
       l .loop .inv .1,
       first-go (roadRule vol) (vol .roads) (l .loop .k) (omega (arith, l .loop .inv .1)) fine (l .loop .inv .2),
-      ap₂ _+_ (c .before .road-first .ensures .0) (c .road-points .ensures .0) ∙ sym (begins-next (vol .road-first) (vol .road-points) (l .loop .k)),
+      ap₂ _+_ (road .first) (road .points) ∙ sym (begins-next (vol .road-first) (vol .road-points) (l .loop .k)),
     )
 
 returns-2 : tie.Need-returns-2 Inv-loop μ-loop
@@ -90,8 +88,7 @@ roads-pass-spec =
     loop-holds
     road-fits-requires
     returns
-    road-first-requires
-    road-points-requires
+    road-at-requires
     add-begin
     add-k
     loop-less

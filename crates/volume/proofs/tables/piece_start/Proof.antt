@@ -3,11 +3,8 @@ use Rattle.volume.specs.Format.{volumeOf}
 use Rattle.volume.proofs.tables.piece_start.Statement.{statement}
 use Rattle.volume.proofs.tables.piece_start.Tie as tie
 
-mul-content : tie.Need-mul-content
-mul-content c = search needs
-
-add-content : tie.Need-add-content
-add-content c = search needs
+record-at-requires : tie.Need-record-at-requires
+record-at-requires c κs = search needs
 
 content-requires : tie.Need-content-requires
 content-requires c κs = search needs
@@ -20,5 +17,4 @@ unfolding volumeOf
 returns c = ((cc), search needs)
 
 pub piece-start-spec : {M : Type 1} → statement M
-piece-start-spec =
-    tie.close (tie.spec mul-content add-content content-requires cast-result returns)
+piece-start-spec = tie.close (tie.spec record-at-requires content-requires cast-result returns)
