@@ -1,6 +1,6 @@
 // Blocks: the words of a volume, the two sums of a block, sealing, and the first block whose sums
 // differ. Answers to document 01, "The volume", first paragraph. What the words mean is said in the
-// crate `volume`.
+// crate `records`.
 use std::num::wrapping_add_u32;
 use std::num::wrapping_sub_u32;
 ghost use mathlib.Core.Path.{_≡_};

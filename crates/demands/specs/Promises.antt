@@ -8,7 +8,7 @@ use lib.ListN.{length}
 use Rattle.theory.specs.Ways.{Way, LeastArrival}
 use Rattle.theory.specs.Network.{Roads, FullDay}
 use Rattle.theory.specs.Windows.{IsAt, Tops, NotBelow}
-use Rattle.volume.specs.Format.{volumeOf}
+use Rattle.records.specs.Format.{volumeOf}
 use Rattle.settle.specs.Units.{Question}
 use Rattle.settle.specs.Outcome.{upperOf}
 use Rattle.settle.specs.declared.Upper.{Upper}

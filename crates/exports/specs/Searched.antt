@@ -6,7 +6,7 @@ use lib.ListN.{length}
 use lib.Dec.{ltb}
 use borrow.Author.Tests.{lt-ltb, le-ltb}
 use Rattle.block.specs.Choose.{choose, choose-yes, choose-no}
-use Rattle.volume.specs.Format.{volumeOf}
+use Rattle.records.specs.Format.{volumeOf}
 use Rattle.search.specs.Answer.{answerOf, workAfter, pathAfter, pathTold, ruled, Searched}
 use Rattle.search.specs.declared.Answer.{Answer}
 use Rattle.exports.specs.Told.{toldNumber, toldPlaces, tells-not}

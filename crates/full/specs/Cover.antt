@@ -7,8 +7,8 @@ use lib.Dec.{eqb, leb}
 use Rattle.block.specs.Choose.{choose, both}
 use Rattle.block.specs.First.{firstNot}
 use Rattle.theory.specs.Network.{Piece, road-of, pair-of, by-piece, edge-arr}
-use Rattle.volume.specs.Format.{Volume}
-use Rattle.volume.specs.Rules.{empty}
+use Rattle.records.specs.Format.{Volume}
+use Rattle.rules.specs.Rules.{empty}
 use Rattle.travel.specs.Network.{networkOf, arrival}
 use Rattle.full.specs.declared.cover.Cover.{Cover}
 use Rattle.full.specs.declared.cover.Cover.the-variants.{Missing, Late, Fine}

@@ -10,8 +10,8 @@ use borrow.Author.Tests.{eq-eqb, ne-eqb}
 use Rattle.block.specs.Choose.{choose-yes, choose-no, both-yes, both-no}
 use Rattle.block.specs.First.{first-is, first-of}
 use Rattle.theory.specs.Network.{Piece}
-use Rattle.volume.specs.Format.{Volume}
-use Rattle.volume.specs.Index.{NoneBefore}
+use Rattle.records.specs.Format.{Volume}
+use Rattle.records.specs.Index.{NoneBefore}
 use Rattle.full.specs.Cover.{leads, edgeWith, firstLate, coverOf}
 use Rattle.full.specs.declared.cover.Cover.the-variants.{Missing, Late, Fine}
 

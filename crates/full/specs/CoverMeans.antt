@@ -9,7 +9,7 @@ use borrow.Author.Tests.{eq-eqb, eqb-true, eqb-false, le-leb, lt-leb, leb-true, 
 use Rattle.block.specs.Choose.{both-yes, both-left, both-right}
 use Rattle.block.specs.First.{FirstOf, first-of, first-is}
 use Rattle.theory.specs.Network.{Piece}
-use Rattle.volume.specs.Format.{Volume}
+use Rattle.records.specs.Format.{Volume}
 use Rattle.volume.specs.Sound.{Sound}
 use Rattle.travel.specs.Network.{networkOf, arrival}
 use Rattle.full.specs.Cover.{arrivalBy, leads, edgeWith, noSlower, firstLate, coverOf}

@@ -7,7 +7,7 @@ use lib.Dec.{eqb, ltb}
 use Rattle.block.specs.Choose.{choose, both}
 use Rattle.block.specs.First.{firstNot}
 use Rattle.theory.specs.Network.{road-of, pair-of}
-use Rattle.volume.specs.Format.{Volume, volumeOf}
+use Rattle.records.specs.Format.{Volume, volumeOf}
 use Rattle.volume.specs.Open.{openOf}
 use Rattle.volume.specs.declared.Opening.{Opening}
 use Rattle.volume.specs.declared.Opening.the-variants as opening

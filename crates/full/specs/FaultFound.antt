@@ -10,18 +10,18 @@ use borrow.Author.Tests.{eq-eqb, ne-eqb, lt-ltb, le-ltb}
 use Rattle.block.specs.Choose.{choose-yes, choose-no, both, both-yes, both-no}
 use Rattle.block.specs.First.{first-start}
 use Rattle.theory.specs.Network.{road-of, pair-of}
-use Rattle.volume.specs.Format.{Volume, volumeOf}
+use Rattle.records.specs.Format.{Volume, volumeOf}
 use Rattle.volume.specs.Open.{openOf}
-use Rattle.volume.specs.declared.tables.Counts.{Counts}
+use Rattle.records.specs.declared.tables.Counts.{Counts}
 use Rattle.volume.specs.declared.Opening.{Opening}
 use Rattle.volume.specs.declared.Opening.the-variants as opening
-use Rattle.volume.specs.Index.{nextFrom, next-low, next-high, next-begins, next-skips}
+use Rattle.records.specs.Index.{nextFrom, next-low, next-high, next-begins, next-skips}
 use Rattle.full.specs.Cover.{named, coverOf}
 use Rattle.full.specs.Runs.{from-jump}
 use Rattle.full.specs.Fault.{isFull, ofRoad, ofPair, isPair, roadFault, pairFault, leftsFault, roadsFault, faultOf, answered, verdictOf}
 use Rattle.full.specs.FaultRow.{NoFault, fault-go, fault-is}
 use Rattle.full.specs.Turns.{named-road, named-pair}
-use Rattle.volume.specs.Rules.{empty}
+use Rattle.rules.specs.Rules.{empty}
 use Rattle.volume.specs.Sound.{Sound}
 use Rattle.full.specs.declared.cover.Cover.{Cover}
 use Rattle.full.specs.declared.Verdict.{Verdict}

@@ -10,7 +10,7 @@ use lib.Dec.{eqb, ltb}
 use borrow.Author.Tests.{eqb-true, eqb-false, ltb-true, not-true}
 use Rattle.block.specs.Choose.{both-left, both-right}
 use Rattle.theory.specs.Network.{road-of, pair-of, FullDay}
-use Rattle.volume.specs.Format.{Volume, volumeOf}
+use Rattle.records.specs.Format.{Volume, volumeOf}
 use Rattle.volume.specs.Open.{openOf}
 use Rattle.volume.specs.Opened.{opened}
 use Rattle.volume.specs.declared.Opening.{Opening}

@@ -5,9 +5,9 @@ use mathlib.Core.Path.{_≡_}
 use mathlib.Core.Logic.{_≢_}
 use mathlib.Core.List.{List}
 use Rattle.theory.specs.Network.{Piece, road-of, pair-of, Covers, DayZero, FullDay}
-use Rattle.volume.specs.Format.{Volume, volumeOf}
+use Rattle.records.specs.Format.{Volume, volumeOf}
 use Rattle.volume.specs.Open.{openOf}
-use Rattle.volume.specs.declared.tables.Counts.{Counts}
+use Rattle.records.specs.declared.tables.Counts.{Counts}
 use Rattle.volume.specs.declared.Opening.the-variants as opening
 use Rattle.travel.specs.Network.{networkOf, arrival}
 use Rattle.full.specs.Cover.{arrivalBy}

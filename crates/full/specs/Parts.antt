@@ -9,8 +9,8 @@ use borrow.Author.Tests.{lt-ltb, le-ltb}
 use Rattle.block.specs.Choose.{choose, choose-yes, choose-no}
 use Rattle.block.specs.First.{Passed, first-end}
 use Rattle.theory.specs.Network.{Piece}
-use Rattle.volume.specs.Format.{Volume}
-use Rattle.volume.specs.Rules.{start}
+use Rattle.records.specs.Format.{Volume}
+use Rattle.rules.specs.Rules.{start}
 use Rattle.volume.specs.Sound.{Sound}
 use Rattle.travel.specs.Last.{lastLe, IsLast, last-is, above-from}
 use Rattle.travel.specs.Network.{pieceAt, pieceOf, HasPiece, road-at, pair-at}

@@ -5,7 +5,7 @@ use mathlib.Core.Path.{_≡_, ap, sym, _∙_}
 use mathlib.Core.List.{List}
 use Rattle.theory.specs.Network as theory
 use Rattle.theory.specs.Promises.{full-every-second}
-use Rattle.volume.specs.Format.{volumeOf}
+use Rattle.records.specs.Format.{volumeOf}
 use Rattle.volume.specs.Opened.{opened}
 use Rattle.travel.specs.Network.{networkOf, sound-network}
 use Rattle.full.specs.Fault.{verdictOf}

@@ -10,12 +10,12 @@ use lib.ListN.{length}
 use borrow.Author.Tests.{eq-eqb, ne-eqb, le-leb, lt-leb}
 use Rattle.block.specs.Choose.{choose-yes, choose-no}
 use Rattle.theory.specs.Network.{Piece, road-of, pair-of, by-piece, edge-arr}
-use Rattle.volume.specs.Format.{Volume, volumeOf, Laid, Counted, day}
-use Rattle.volume.specs.Rules.{empty}
+use Rattle.records.specs.Format.{Volume, volumeOf, Laid, Counted, day}
+use Rattle.rules.specs.Rules.{empty}
 use Rattle.volume.specs.Sound.{Sound}
-use Rattle.volume.specs.Index.{Linked, Indexed, indexed-linked}
-use Rattle.volume.specs.declared.tables.Counts.{Counts}
-use Rattle.volume.specs.declared.tables.Tables.{Tables}
+use Rattle.records.specs.Index.{Linked, Indexed, indexed-linked}
+use Rattle.records.specs.declared.tables.Counts.{Counts}
+use Rattle.records.specs.declared.tables.Tables.{Tables}
 use Rattle.travel.specs.Network.{networkOf, period-of, arrival, roadTime, Enters}
 use Rattle.travel.specs.Halves.{edge-short}
 use Rattle.full.specs.Cover.{named, arrivalBy, notAfter}

@@ -1,19 +1,19 @@
 // How the edges cover one road, or two edges in turn: document 01, "Full". Both are named by two numbers as a piece names them, so
 // that one search serves both: a road is `left` with the right EMPTY, two edges in turn are `left` and `right`.
+use records::tables::EMPTY;
+use records::tables::PERIOD;
+use records::tables::Tables;
+use records::tables::edge_first;
+use records::tables::edge_pieces;
+use records::tables::edge_to;
+use records::tables::piece_left;
+use records::tables::piece_right;
+use records::tables::piece_start;
 use travel::edge::edge_duration;
 use travel::edge::road_lasts;
-use volume::tables::EMPTY;
-use volume::tables::PERIOD;
-use volume::tables::Tables;
-use volume::tables::edge_first;
-use volume::tables::edge_pieces;
-use volume::tables::edge_to;
-use volume::tables::piece_left;
-use volume::tables::piece_right;
-use volume::tables::piece_start;
 ghost use mathlib.Core.Path.{_≡_};
 ghost use Prim.Native.Nat.{_+_, _≤_, _<_};
-ghost use Rattle.volume.specs.Format.{volumeOf, Laid};
+ghost use Rattle.records.specs.Format.{volumeOf, Laid};
 ghost use Rattle.volume.specs.Sound.{Sound};
 ghost use Rattle.travel.specs.Digest.{LaidOut, Digest};
 ghost use Rattle.full.specs.Cover.{named, arrivalBy, notAfter, edgeWith, firstLate, coverOf};

@@ -4,7 +4,7 @@ use Prim.Native.Nat.{ℕ, _-_, _/_, _%_}
 use mathlib.Core.List.{List, [], _∷_, _++_}
 use lib.ListN.{length, replicate}
 use Rattle.block.specs.Seal.{sealed}
-use Rattle.volume.specs.Rules.{empty}
+use Rattle.rules.specs.Rules.{empty}
 
 -- the bytes of words, least byte first
 unfoldable pub bytesOf : List ℕ → List ℕ

@@ -8,7 +8,7 @@ use lib.ListN.{length, replicate}
 use Rattle.block.specs.Word.{putWord}
 use Rattle.block.specs.Sums.{checkA, checkB}
 use Rattle.theory.specs.Network.{FullDay}
-use Rattle.volume.specs.Format.{volumeOf}
+use Rattle.records.specs.Format.{volumeOf}
 use Rattle.volume.specs.Sound.{Sound}
 use Rattle.volume.specs.Open.{openOf}
 use Rattle.volume.specs.declared.Opening.the-variants.{Opened}

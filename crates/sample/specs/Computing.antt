@@ -11,10 +11,8 @@ use Rattle.theory.specs.Marks.{marks, marked}
 use Rattle.theory.specs.Tests.{any}
 use Rattle.theory.specs.Unfold.{roads-of-edge, path-of}
 use Rattle.theory.specs.Settling.{offer, relax, least, settle, look, trail-back, run, search-from}
-use Rattle.volume.specs.Format.{volumeOf}
-use Rattle.volume.specs.Rules.{headFits, fewestBlocks, fillerZero, countsRule, endsFit, begins, placed, allObey}
-use Rattle.volume.specs.Rules.{pointFits, nextSecond, nextDuration, pointRule, roadRule}
-use Rattle.volume.specs.Rules.{startFits, roadJoins, meet, pairJoins, sameEnds, newEnds, pieceFits, pieceRule, pieceSpan, greatestSpan, spanRule, edgeRule}
+use Rattle.records.specs.Format.{volumeOf}
+use Rattle.rules.specs.Rules.{headFits, fewestBlocks, fillerZero, countsRule, endsFit, begins, placed, allObey, pointFits, nextSecond, nextDuration, pointRule, roadRule, startFits, roadJoins, meet, pairJoins, sameEnds, newEnds, pieceFits, pieceRule, pieceSpan, greatestSpan, spanRule, edgeRule}
 use Rattle.volume.specs.Open.{recordsOf, openOf}
 use Rattle.travel.specs.Last.{lastLe}
 use Rattle.travel.specs.Road.{between, rightSecond, rightDuration, fromPoint, roadDuration}

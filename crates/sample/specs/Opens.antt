@@ -1,11 +1,11 @@
 -- The sample network and the one whose edge 2 has its first piece alone both open, by computation, and so they are sound. What the
 -- full check says of them is in Verdicts.
 use mathlib.Core.Path.{_≡_, refl}
-use Rattle.volume.specs.Format.{volumeOf}
+use Rattle.records.specs.Format.{volumeOf}
 use Rattle.volume.specs.Sound.{Sound}
 use Rattle.volume.specs.Open.{openOf}
 use Rattle.volume.specs.Opened.{opened}
-use Rattle.volume.specs.declared.tables.Counts.{Counts}
+use Rattle.records.specs.declared.tables.Counts.{Counts}
 use Rattle.volume.specs.declared.Opening.the-variants.{Opened}
 use Rattle.sample.specs.Bytes.{sample, onePiece}
 use Rattle.sample.specs.Computing.{computing}

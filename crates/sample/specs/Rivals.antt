@@ -6,8 +6,8 @@ use native.Mathlib.Decide.{decLt}
 use native.Mathlib.Nat.{mod-lt, sub-zero}
 use native.Mathlib.Omega.{arith}
 use Rattle.theory.specs.Network.{Piece, road-of, pair-of}
-use Rattle.volume.specs.Format.{Volume, volumeOf, day}
-use Rattle.volume.specs.Rules.{second, duration}
+use Rattle.records.specs.Format.{Volume, volumeOf, day}
+use Rattle.rules.specs.Rules.{second, duration}
 use Rattle.volume.specs.Sound.{Sound}
 use Rattle.travel.specs.Last.{IsLast, last-is}
 use Rattle.travel.specs.Road.{between, fromPoint, roadDuration}

@@ -8,8 +8,8 @@ use native.Mathlib.Decide.{decLt}
 use native.Mathlib.Nat.{mod-eq-of-lt}
 use native.Mathlib.Omega.{arith}
 use Rattle.theory.specs.Network.{Piece, road-of, pair-of, FullDay}
-use Rattle.volume.specs.Format.{Volume, volumeOf}
-use Rattle.volume.specs.Rules.{start}
+use Rattle.records.specs.Format.{Volume, volumeOf}
+use Rattle.rules.specs.Rules.{start}
 use Rattle.travel.specs.Last.{IsLast, last-is, above-from}
 use Rattle.travel.specs.Network.{pieceAt, pieceOf, networkOf, arrival}
 use Rattle.travel.specs.Halves.{edge-by-piece}

@@ -10,7 +10,7 @@ use lib.ListN.{length}
 use Rattle.block.specs.Choose.{choose, both}
 use Rattle.theory.specs.Settling as Rule
 use Rattle.theory.specs.Settling.{UpperEnd, none, at-most, no-way, closed, open-from, answer}
-use Rattle.volume.specs.Format.{Volume, volumeOf}
+use Rattle.records.specs.Format.{Volume, volumeOf}
 use Rattle.volume.specs.Open.{openOf}
 use Rattle.volume.specs.declared.Opening as Opening
 use Rattle.travel.specs.Network.{networkOf}

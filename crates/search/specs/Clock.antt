@@ -14,7 +14,7 @@ use Rattle.theory.specs.Labels.{Waits, Has, waits-has, put-at}
 use Rattle.theory.specs.OneUnit.{Step, kept, settles, reached, hastened, settle-step}
 use Rattle.theory.specs.Looks.{Sees, look-right}
 use Rattle.theory.specs.Windows.{IsAt}
-use Rattle.volume.specs.Format.{Volume}
+use Rattle.records.specs.Format.{Volume}
 use Rattle.volume.specs.Sound.{Sound}
 use Rattle.travel.specs.Network.{networkOf}
 use Rattle.travel.specs.Halves.{edge-short}

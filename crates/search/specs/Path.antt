@@ -10,8 +10,8 @@ use lib.Seq.{take-suc, take-all, split-at}
 use Rattle.theory.specs.Ways.{drive, drive-append}
 use Rattle.theory.specs.Network.{Network, edge-arr, Edges}
 use Rattle.theory.specs.Unfold.{roads-of-edge, path-of}
-use Rattle.volume.specs.Format.{Volume}
-use Rattle.volume.specs.Rules.{longest, mostSpan}
+use Rattle.records.specs.Format.{Volume}
+use Rattle.rules.specs.Rules.{longest, mostSpan}
 use Rattle.volume.specs.Sound.{Sound}
 use Rattle.travel.specs.Network.{networkOf, arrival, roadsOf, Enters}
 use Rattle.travel.specs.Promises.{edge-takes}

@@ -15,10 +15,10 @@ use Rattle.theory.specs.Settling as Rule
 use Rattle.theory.specs.Settling.{none, open-from}
 use Rattle.theory.specs.Windows.{NotBelow, IsAt, Tops, used, Finished, Narrows}
 use Rattle.theory.specs.Promises as Theory
-use Rattle.volume.specs.Format.{volumeOf}
+use Rattle.records.specs.Format.{volumeOf}
 use Rattle.volume.specs.Open.{openOf}
 use Rattle.volume.specs.Opened.{opened}
-use Rattle.volume.specs.declared.tables.Counts.{Counts}
+use Rattle.records.specs.declared.tables.Counts.{Counts}
 use Rattle.volume.specs.declared.Opening.the-variants.{Opened}
 use Rattle.travel.specs.Network.{networkOf, sound-network}
 use Rattle.settle.specs.Work.{cleared}

@@ -17,12 +17,12 @@ use Rattle.theory.specs.Reach.{edges-along}
 use Rattle.theory.specs.Answers.{closed-trail}
 use Rattle.theory.specs.States.{asked, reach-edges}
 use Rattle.theory.specs.Promises.{units-bounded}
-use Rattle.volume.specs.Format.{Volume, volumeOf}
+use Rattle.records.specs.Format.{Volume, volumeOf}
 use Rattle.volume.specs.Sound.{Sound}
 use Rattle.volume.specs.Open.{recordsOf, openOf}
 use Rattle.volume.specs.Opened.{opened}
 use Rattle.volume.specs.declared.Opening as Opening
-use Rattle.volume.specs.declared.tables.Counts.{Counts}
+use Rattle.records.specs.declared.tables.Counts.{Counts}
 use Rattle.travel.specs.Network.{networkOf, sound-network}
 use Rattle.travel.specs.Written.{withRoads}
 use Rattle.settle.specs.Work.{labels, cleared}

@@ -13,11 +13,11 @@ use Rattle.block.specs.Choose.{choose, both}
 use Rattle.theory.specs.Settling as Rule
 use Rattle.theory.specs.Settling.{UpperEnd, none, at-most, no-way, closed, open-from}
 use Rattle.theory.specs.Windows.{NotBelow, Tops, used, Finished, Narrows}
-use Rattle.volume.specs.Format.{Volume, volumeOf}
+use Rattle.records.specs.Format.{Volume, volumeOf}
 use Rattle.volume.specs.Sound.{Sound}
 use Rattle.volume.specs.Open.{openOf}
 use Rattle.volume.specs.Opened.{OpenVolume, opened}
-use Rattle.volume.specs.declared.tables.Counts.{Counts}
+use Rattle.records.specs.declared.tables.Counts.{Counts}
 use Rattle.volume.specs.declared.Opening as Opening
 use Rattle.settle.specs.Outcome.{upperOf}
 use Rattle.settle.specs.declared.Upper.{Upper}

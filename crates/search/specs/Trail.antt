@@ -11,7 +11,7 @@ use lib.ListN.{length, take, drop, set, getD, length-set, length-drop}
 use lib.Seq.{take-all, drop-length, drop-cons, getD-set-same, drop-set-lt}
 use borrow.Author.Tests.{eq-eqb, ne-eqb, lt-ltb, le-ltb}
 use Rattle.theory.specs.Settling.{arc-of, came-from, edges-by, web, trail-back}
-use Rattle.volume.specs.Format.{Volume}
+use Rattle.records.specs.Format.{Volume}
 use Rattle.volume.specs.Sound.{Sound}
 use Rattle.travel.specs.Network.{networkOf}
 use Rattle.settle.specs.Work.{label-of, labels}

@@ -1,12 +1,12 @@
 // The path of a trail: its edges unfolded to roads in driving order, each at its own departure. The roads are counted first, so that a
 // path list with too little room is refused before a single place is written.
+use records::tables::Tables;
 use travel::path::count_roads;
 use travel::path::unfold_edge;
-use volume::tables::Tables;
 ghost use mathlib.Core.Path.{_≡_};
 ghost use Prim.Native.Nat.{_≤_};
 ghost use lib.ListN.{length};
-ghost use Rattle.volume.specs.Format.{volumeOf, Laid};
+ghost use Rattle.records.specs.Format.{volumeOf, Laid};
 ghost use Rattle.volume.specs.Sound.{Sound};
 ghost use Rattle.travel.specs.Written.{withRoads};
 ghost use Rattle.search.specs.Path.{Chain, pathOf};

@@ -1,11 +1,11 @@
 // The trail of a closed answer: from the destination back to the start, by the arc of each state's label.
-use volume::tables::Tables;
-use volume::tables::edge_from;
+use records::tables::Tables;
+use records::tables::edge_from;
 ghost use mathlib.Core.Path.{_≡_};
 ghost use Prim.Native.Nat.{_*_, _≤_, _<_};
 ghost use lib.ListN.{length};
 ghost use Rattle.theory.specs.Settling.{arc-of};
-ghost use Rattle.volume.specs.Format.{volumeOf, Laid};
+ghost use Rattle.records.specs.Format.{volumeOf, Laid};
 ghost use Rattle.volume.specs.Sound.{Sound};
 ghost use Rattle.settle.specs.Work.{labels};
 ghost use Rattle.search.specs.Trail.{Walkable, cameFrom, Trailed};

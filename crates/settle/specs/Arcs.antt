@@ -14,9 +14,9 @@ use Rattle.block.specs.Choose.{choose, choose-yes, choose-no, choose-first}
 use Rattle.theory.specs.Settling.{Web, Label, Table, put, offered, offer, leaves-by, leads-to, web}
 use Rattle.theory.specs.Marks.{marked}
 use Rattle.theory.specs.Computing.{offer-skips, offer-makes}
-use Rattle.volume.specs.Format.{Volume, volumeOf, Laid}
+use Rattle.records.specs.Format.{Volume, volumeOf, Laid}
 use Rattle.volume.specs.Sound.{Sound}
-use Rattle.volume.specs.declared.tables.Tables.{Tables}
+use Rattle.records.specs.declared.tables.Tables.{Tables}
 use Rattle.travel.specs.Network.{networkOf, arrival, Enters}
 use Rattle.travel.specs.Halves.{edge-short}
 use Rattle.settle.specs.Work.{label-of, label-at, labels, labels-in, Holds, holds-same, holds-as}

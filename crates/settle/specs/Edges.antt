@@ -5,8 +5,8 @@ use mathlib.Core.Logic.{_≢_}
 use mathlib.Core.Path.{_≡_}
 use native.Mathlib.Omega.{arith}
 use native.Mathlib.Decide.{decLt}
-use Rattle.volume.specs.Format.{Volume}
-use Rattle.volume.specs.Index.{nextFrom, next-high, next-begins, next-skips}
+use Rattle.records.specs.Format.{Volume}
+use Rattle.records.specs.Index.{nextFrom, next-high, next-begins, next-skips}
 
 -- e is an edge of u, or E
 pub record OnWalk (vol : Volume) (u e : ℕ) : Type 0 where

@@ -13,7 +13,7 @@ use lib.Seq.{getD-set-same, getD-set-other}
 use borrow.Author.Tests.{eq-eqb, ne-eqb, lt-ltb, le-ltb}
 use Rattle.theory.specs.Tests.{any, holds}
 use Rattle.theory.specs.Marks.{falls-to, marked, marked-is, marked-destination, marked-above}
-use Rattle.volume.specs.Format.{Volume}
+use Rattle.records.specs.Format.{Volume}
 use Rattle.travel.specs.Network.{networkOf}
 
 -- 1 where a test holds, else 0

@@ -4,7 +4,7 @@ use mathlib.Core.List.{List, []}
 use mathlib.Core.Path.{_≡_}
 use lib.ListN.{length, drop}
 use Rattle.theory.specs.Settling.{arc-of, UpperEnd, none, at-most, no-way, closed, open-from, trail-back, web, answer}
-use Rattle.volume.specs.Format.{Volume}
+use Rattle.records.specs.Format.{Volume}
 use Rattle.travel.specs.Network.{networkOf}
 use Rattle.settle.specs.Work.{labels}
 use Rattle.settle.specs.declared.Upper.{Upper}

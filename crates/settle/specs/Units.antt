@@ -12,8 +12,8 @@ use Rattle.theory.specs.Labels.{Waits, put-at}
 use Rattle.theory.specs.OneUnit.{Step, kept, settles, reached, hastened, settle-step}
 use Rattle.theory.specs.Looks.{Next, Sees, look-right}
 use Rattle.theory.specs.Computing.{look-is, run-no-way, run-closed, run-open, run-unit}
-use Rattle.volume.specs.Format.{Volume}
-use Rattle.volume.specs.Rules.{longest, mostSpan}
+use Rattle.records.specs.Format.{Volume}
+use Rattle.rules.specs.Rules.{longest, mostSpan}
 use Rattle.volume.specs.Sound.{Sound}
 use Rattle.travel.specs.Network.{networkOf}
 use Rattle.travel.specs.Halves.{edge-short}

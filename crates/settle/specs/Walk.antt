@@ -15,8 +15,8 @@ use Rattle.block.specs.Choose.{choose, choose-yes, choose-no}
 use Rattle.theory.specs.Settling.{Table, put, offer, relax, settle-label, settle, leaves-by}
 use Rattle.theory.specs.Marks.{marked}
 use Rattle.theory.specs.Computing.{relax-more, relax-skips}
-use Rattle.volume.specs.Format.{Volume}
-use Rattle.volume.specs.Index.{nextFrom, next-low, next-skips}
+use Rattle.records.specs.Format.{Volume}
+use Rattle.records.specs.Index.{nextFrom, next-low, next-skips}
 use Rattle.travel.specs.Network.{networkOf}
 use Rattle.settle.specs.Work.{label-of, labels, labels-in, store, Holds, holds-same, holds-then, holds-as, holds-store}
 use Rattle.settle.specs.Chain.{WaitsAt}

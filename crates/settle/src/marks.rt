@@ -1,13 +1,13 @@
 // Marks: document 01, "a junction is marked if it is the destination or has an edge to a marked junction of lower rank". An edge to
 // lower rank leads to a junction whose mark is known already, since junctions go in rising order.
-use volume::tables::Counts;
-use volume::tables::Tables;
-use volume::tables::edge_to;
+use records::tables::Counts;
+use records::tables::Tables;
+use records::tables::edge_to;
 ghost use mathlib.Core.Path.{_≡_};
 ghost use Prim.Native.Nat.{_≤_, _<_};
 ghost use lib.ListN.{length};
-ghost use Rattle.volume.specs.Format.{volumeOf, Counted, Laid};
-ghost use Rattle.volume.specs.Index.{Linked};
+ghost use Rattle.records.specs.Format.{volumeOf, Counted, Laid};
+ghost use Rattle.records.specs.Index.{Linked};
 ghost use Rattle.settle.specs.Marked.{markOf, MarksBelow, Marks};
 
 // The mark of junction u, where the marks of all lower junctions are known.

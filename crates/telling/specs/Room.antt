@@ -5,7 +5,7 @@ use mathlib.Core.List.{List}
 use native.Mathlib.Omega.{arith}
 use lib.ListN.{length, drop, length-append}
 use Rattle.theory.specs.Settling as Rule
-use Rattle.volume.specs.Format.{volumeOf}
+use Rattle.records.specs.Format.{volumeOf}
 use Rattle.search.specs.Answer.{Searched, pathAfter, pathTold, ruled}
 use Rattle.search.specs.Path.{pathOf}
 use Rattle.search.specs.Tells.{given}

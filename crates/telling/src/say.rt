@@ -2,11 +2,11 @@
 use block::Sealing;
 use full::Verdict;
 use libc::STDOUT_FILENO;
+use records::tables::Counts;
 use search::Answer;
 use settle::Upper;
 use travel::Timing;
 use volume::Opening;
-use volume::tables::Counts;
 ghost use Prim.Native.Nat.{_≤_};
 ghost use lib.ListN.{length};
 ghost use Rattle.telling.specs.Room.{RoadsFit};

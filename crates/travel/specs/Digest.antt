@@ -12,11 +12,11 @@ use lib.Seq.{getD-set-same, getD-set-other}
 use lib.Dec.{eqb}
 use borrow.Author.Tests.{eq-eqb, ne-eqb}
 use Rattle.block.specs.Choose.{choose, choose-yes, choose-no}
-use Rattle.volume.specs.Format.{pieceWords, Volume, volumeOf, countsOf, tablesOf, piecesAt, Few, Laid}
-use Rattle.volume.specs.Rules.{begins}
-use Rattle.volume.specs.Passes.{begins-next}
+use Rattle.records.specs.Format.{pieceWords, Volume, volumeOf, countsOf, tablesOf, piecesAt, Few, Laid}
+use Rattle.rules.specs.Rules.{begins}
+use Rattle.rules.specs.Facts.{begins-next}
 use Rattle.volume.specs.Sound.{Sound}
-use Rattle.volume.specs.declared.tables.Tables.{Tables}
+use Rattle.records.specs.declared.tables.Tables.{Tables}
 use Rattle.travel.specs.Network.{roadTime}
 use Rattle.travel.specs.PointsFrom.{of-road, one-is}
 

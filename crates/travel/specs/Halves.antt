@@ -10,8 +10,8 @@ use native.Mathlib.Nat.{mod-lt}
 use Rattle.theory.specs.Network.{Piece, road-of, pair-of, by-piece, edge-arr, SoundNetwork, Spans}
 use Rattle.theory.specs.Pieces.{InForce, edge-is, edge-bound, by-pieces}
 use Rattle.theory.specs.Unfold.{roads-by-piece, roads-of-edge, unfold-is}
-use Rattle.volume.specs.Format.{Volume}
-use Rattle.volume.specs.Rules.{longest, empty}
+use Rattle.records.specs.Format.{Volume}
+use Rattle.rules.specs.Rules.{longest, empty}
 use Rattle.volume.specs.Sound.{PairPiece, Sound}
 use Rattle.travel.specs.Network.{networkOf, pieceAt, pieceOf, arrival, pieceArrival, roadsOf, roadTime, HasPiece, Enters}
 use Rattle.travel.specs.Network.{period-of, edges-of, in-force-of, piece-road, piece-pair, has-piece, road-at, pair-at, sound-network, bounded}

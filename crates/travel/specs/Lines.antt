@@ -8,7 +8,7 @@ use native.Mathlib.Decide.{decLt}
 use native.Mathlib.Nat.{eq-or-lt-of-le}
 use native.Mathlib.Omega.{arith}
 use Rattle.block.specs.Choose.{choose-yes, choose-no}
-use Rattle.volume.specs.Rules.{longest}
+use Rattle.rules.specs.Rules.{longest}
 use Rattle.volume.specs.Sound.{Points}
 use Rattle.travel.specs.Last.{IsLast, rise-far}
 use Rattle.travel.specs.Road.{rightSecond, rightDuration, fromPoint}

@@ -12,8 +12,8 @@ use native.Mathlib.Omega.{arith}
 use Rattle.block.specs.Choose.{choose, choose-yes, choose-no}
 use Rattle.theory.specs.Network.{Piece, road-of, pair-of, Network, by-piece, edge-arr, Fits, SoundNetwork, Spans, Bounded}
 use Rattle.theory.specs.Unfold.{roads-of-edge}
-use Rattle.volume.specs.Format.{Volume}
-use Rattle.volume.specs.Rules.{longest, empty, second, duration, start}
+use Rattle.records.specs.Format.{Volume}
+use Rattle.rules.specs.Rules.{longest, empty, second, duration, start}
 use Rattle.volume.specs.Sound.{RoadPiece, PairPiece, Sound}
 use Rattle.travel.specs.Last.{lastLe, last-is-last}
 use Rattle.travel.specs.Road.{roadDuration}

@@ -4,9 +4,9 @@ use mathlib.Core.Path.{_≡_, refl, ap, _∙_}
 use mathlib.Core.List.{List}
 use native.Mathlib.Omega.{arith}
 use Rattle.block.specs.Word.{contentAt, mostWords, Holds}
-use Rattle.volume.specs.Format.{pieceWords, volumeOf, Laid}
+use Rattle.records.specs.Format.{pieceWords, volumeOf, Laid}
 use Rattle.volume.specs.Sound.{Sound}
-use Rattle.volume.specs.declared.tables.Tables.{Tables}
+use Rattle.records.specs.declared.tables.Tables.{Tables}
 use Rattle.travel.specs.Last.{lastLe}
 use Rattle.travel.specs.Network.{pieceAt, has-piece, Enters}
 use Rattle.travel.specs.Halves.{force-has, force-in}

@@ -4,8 +4,8 @@ use Prim.Native.Nat.{ℕ, _+_, _-_, _%_, _≤_, _<_}
 use mathlib.Core.Path.{_≡_, ap, sym, _∙_}
 use native.Mathlib.Omega.{arith}
 use native.Mathlib.Nat.{mod-lt}
-use Rattle.volume.specs.Format.{Volume}
-use Rattle.volume.specs.Rules.{longest}
+use Rattle.records.specs.Format.{Volume}
+use Rattle.rules.specs.Rules.{longest}
 use Rattle.volume.specs.Sound.{Points, Sound}
 use Rattle.travel.specs.Last.{lastLe, last-is-last}
 use Rattle.travel.specs.Road.{between, fromPoint, roadDuration}

@@ -10,8 +10,8 @@ use Rattle.theory.specs.Pieces as Pieces
 use Rattle.theory.specs.Pieces.{edge-later}
 use Rattle.theory.specs.Fifo.{road-fifo}
 use Rattle.theory.specs.Unfold.{edge-unfolds}
-use Rattle.volume.specs.Format.{Volume}
-use Rattle.volume.specs.Rules.{longest}
+use Rattle.records.specs.Format.{Volume}
+use Rattle.rules.specs.Rules.{longest}
 use Rattle.volume.specs.Sound.{Sound}
 use Rattle.travel.specs.Network.{networkOf, pieceAt, roadTime, arrival, pieceArrival, roadsOf, sound-network, bounded}
 use Rattle.travel.specs.Halves.{edge-by-piece, edge-short}

@@ -7,7 +7,7 @@ use borrow.Author.Tests.{lt-ltb, le-ltb}
 use native.Mathlib.Decide.{decLt}
 use native.Mathlib.Omega.{arith}
 use Rattle.block.specs.Choose.{choose-yes, choose-no}
-use Rattle.volume.specs.Rules.{longest}
+use Rattle.rules.specs.Rules.{longest}
 use Rattle.volume.specs.Sound.{Points}
 use Rattle.travel.specs.Last.{lastLe, last-is-last, rise-far}
 use Rattle.travel.specs.Road.{fromPoint, roadDuration}

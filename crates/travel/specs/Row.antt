@@ -6,10 +6,10 @@ use mathlib.Core.List.{List}
 use native.Mathlib.Omega.{arith}
 use native.Mathlib.Nat.{mul-le-mul-left, mul-add}
 use Rattle.block.specs.Word.{contentAt, Holds}
-use Rattle.volume.specs.Format.{pointWords, pieceWords, volumeOf, Laid}
-use Rattle.volume.specs.Rules.{start}
+use Rattle.records.specs.Format.{pointWords, pieceWords, volumeOf, Laid}
+use Rattle.rules.specs.Rules.{start}
 use Rattle.volume.specs.Sound.{Sound}
-use Rattle.volume.specs.declared.tables.Tables.{Tables}
+use Rattle.records.specs.declared.tables.Tables.{Tables}
 use Rattle.travel.specs.Last.{lastLe, Rises, Within, within-all, upper-half, lower-half, within-one}
 use Rattle.travel.specs.Network.{pieceAt}
 use Rattle.travel.specs.PointsFrom.{secondFrom, OfRoad, points-from}

@@ -4,7 +4,7 @@ use mathlib.Core.Path.{_≡_, sym, _∙_}
 use mathlib.Core.List.{List}
 use lib.Dec.{ltb}
 use Rattle.block.specs.Choose.{choose}
-use Rattle.volume.specs.Format.{volumeOf}
+use Rattle.records.specs.Format.{volumeOf}
 use Rattle.volume.specs.Open.{openOf}
 use Rattle.volume.specs.declared.Opening.{Opening}
 use Rattle.volume.specs.declared.Opening.the-variants.{Opened, Refused as NotOpened}

@@ -6,8 +6,8 @@ use mathlib.Core.Logic.{_≢_}
 use mathlib.Core.List.{[], _∷_, _++_}
 use lib.ListN.{length, length-append}
 use native.Mathlib.Omega.{arith}
-use Rattle.volume.specs.Format.{Volume}
-use Rattle.volume.specs.Rules.{empty, mostSpan}
+use Rattle.records.specs.Format.{Volume}
+use Rattle.rules.specs.Rules.{empty, mostSpan}
 use Rattle.volume.specs.Sound.{Sound}
 use Rattle.travel.specs.Network.{pieceAt, roadTime, arrival, roadsOf}
 use Rattle.travel.specs.Halves.{InHand, edge-by-piece, road-arrives, halves-arrive, roads-one, roads-two, roads-few}

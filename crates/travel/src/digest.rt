@@ -2,16 +2,16 @@
 // the sealed words. Of a road with one point, which takes as long at every second, it has the duration, of any other road 0; of an edge
 // the content word at which its pieces begin, and behind the last edge the one at which they end. The edges stand behind as many places
 // as a volume may have roads.
-use volume::tables::Counts;
-use volume::tables::PIECE_WORDS;
-use volume::tables::Tables;
-use volume::tables::edge_pieces;
-use volume::tables::point_at;
-use volume::tables::road_at;
+use records::tables::Counts;
+use records::tables::PIECE_WORDS;
+use records::tables::Tables;
+use records::tables::edge_pieces;
+use records::tables::point_at;
+use records::tables::road_at;
 ghost use mathlib.Core.Path.{_≡_};
 ghost use Prim.Native.Nat.{_+_, _^_, _≤_, _<_};
 ghost use lib.ListN.{length, getD};
-ghost use Rattle.volume.specs.Format.{volumeOf, Counted, Laid};
+ghost use Rattle.records.specs.Format.{volumeOf, Counted, Laid};
 ghost use Rattle.volume.specs.Sound.{Sound};
 ghost use Rattle.travel.specs.Digest.{steadyOf, piecesFrom, listed, digestEdges, digestOf};
 

@@ -1,21 +1,21 @@
 // Travel times: how long a road and an edge take at a departure, and the roads that an edge unfolds to. Answers to document 01,
-// "Travel time", and to its sentences on the unfolded path. What a volume holds is the crate `volume`'s.
+// "Travel time", and to its sentences on the unfolded path. What a volume holds is the crate `records`'.
 use crate::digest::LONG;
 use crate::digest::SHORT;
 use crate::digest::make_digest;
 use crate::edge::edge_duration;
 use crate::path::count_roads;
 use crate::road::road_duration;
+use records::tables::Counts;
+use records::tables::Tables;
+use records::tables::edge_span;
+use records::tables::tables_of;
 use volume::Opening;
 use volume::open;
-use volume::tables::Counts;
-use volume::tables::Tables;
-use volume::tables::edge_span;
-use volume::tables::tables_of;
 ghost use mathlib.Core.Path.{_≡_};
 ghost use Prim.Native.Nat.{_+_, _<_};
 ghost use lib.ListN.{length};
-ghost use Rattle.volume.specs.Format.{volumeOf, Counted, Laid};
+ghost use Rattle.records.specs.Format.{volumeOf, Counted, Laid};
 ghost use Rattle.volume.specs.Sound.{Sound};
 ghost use Rattle.travel.specs.Network.{Enters, arrival};
 ghost use Rattle.travel.specs.Digest.{digestEdges};

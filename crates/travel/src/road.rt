@@ -1,13 +1,13 @@
 // How long a road takes at a second: document 01, "Travel time". A road's points are a row of the table of points.
 use crate::last::last_at;
-use volume::tables::PERIOD;
-use volume::tables::POINT_WORDS;
-use volume::tables::Tables;
-use volume::tables::point_at;
-use volume::tables::road_at;
+use records::tables::PERIOD;
+use records::tables::POINT_WORDS;
+use records::tables::Tables;
+use records::tables::point_at;
+use records::tables::road_at;
 ghost use mathlib.Core.Path.{_≡_};
 ghost use Prim.Native.Nat.{_^_, _<_};
-ghost use Rattle.volume.specs.Format.{volumeOf, Laid};
+ghost use Rattle.records.specs.Format.{volumeOf, Laid};
 ghost use Rattle.volume.specs.Sound.{Sound};
 ghost use Rattle.travel.specs.Road.{between};
 ghost use Rattle.travel.specs.PointsFrom.{PointsFrom, LineFrom, durationOn, Ends};

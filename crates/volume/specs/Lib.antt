@@ -1,12 +1,6 @@
-pub mod Format
-pub mod Rules
 pub mod Open
 pub mod Sound
 pub mod Passes
-pub mod RoadSteps
-pub mod EdgeSteps
 pub mod OpenSteps
 pub mod Opened
-pub mod Index
 pub mod Repeats
-pub mod Kept

@@ -9,8 +9,8 @@ use borrow.Author.Tests.{eq-eqb, ne-eqb}
 use Rattle.block.specs.Choose.{choose, choose-yes, choose-no}
 use Rattle.block.specs.Whole.{whole}
 use Rattle.block.specs.Good.{firstBad}
-use Rattle.volume.specs.Format.{Volume, volumeOf, countsOf}
-use Rattle.volume.specs.Rules.{countsRule, roadsRule, firstRoad, edgesRule, firstEdge}
+use Rattle.records.specs.Format.{Volume, volumeOf, countsOf}
+use Rattle.rules.specs.Rules.{countsRule, roadsRule, firstRoad, edgesRule, firstEdge}
 use Rattle.volume.specs.declared.Opening.{Opening}
 use Rattle.volume.specs.declared.Opening.the-variants.{Opened, Refused}
 

@@ -9,13 +9,13 @@ use lib.Dec.{leb}
 use borrow.Author.Tests.{leb-true}
 use Rattle.block.specs.Choose.{choose-yes, choose-no, both, both-left, both-right}
 use Rattle.block.specs.First.{firstNot}
-use Rattle.volume.specs.Format.{Volume, volumeOf, countsOf, Counted, Few, Laid, tablesOf, wordsIn, wordsOf}
-use Rattle.volume.specs.Rules.{headFits, fewestBlocks, fillerZero, countsRule, allObey, roadsRule, firstRoad, edgesRule, firstEdge}
+use Rattle.records.specs.Format.{Volume, volumeOf, countsOf, Counted, Few, Laid, tablesOf, wordsIn, wordsOf}
+use Rattle.rules.specs.Rules.{headFits, fewestBlocks, fillerZero, countsRule, allObey, roadsRule, firstRoad, edgesRule, firstEdge}
 use Rattle.volume.specs.Passes.{passOver}
 use Rattle.volume.specs.Open.{recordsOf}
-use Rattle.volume.specs.declared.tables.Counts.{Counts}
-use Rattle.volume.specs.declared.tables.Tables.{Tables}
-use Rattle.volume.specs.declared.roads.Pass.the-variants.{Fine, Fault}
+use Rattle.records.specs.declared.tables.Counts.{Counts}
+use Rattle.records.specs.declared.tables.Tables.{Tables}
+use Rattle.volume.specs.declared.road_pass.Pass.the-variants.{Fine, Fault}
 use Rattle.volume.specs.declared.Opening.the-variants.{Opened, Refused}
 
 -- the head's limits as facts

@@ -1,4 +1,4 @@
--- A volume that opens is sound: from the tests of Rules to the facts of Sound.
+-- A volume that opens is sound: from the tests of Rules, of the crate `rules`, to the facts of Sound.
 use Prim.Native.Nat.{ℕ, zero, suc, _+_, _-_, _/_, _≤_, _<_, max}
 use mathlib.Core.Path.{_≡_, refl, sym, _∙_}
 use mathlib.Core.Logic.{_≢_}
@@ -13,14 +13,14 @@ use Rattle.block.specs.Choose.{choose, choose-yes, choose-no, choose-first, bot
 use Rattle.block.specs.First.{allBelow, all-below}
 use Rattle.block.specs.Good.{firstBad}
 use Rattle.block.specs.Whole.{whole}
-use Rattle.volume.specs.Format.{Volume, volumeOf, countsOf, wordsOf, tablesOf, Counted, Few, Laid, period-is}
-use Rattle.volume.specs.Rules.{longest, empty, endsFit, begins, placed, pointFits, nextSecond, nextDuration, pointRule, second, duration, roadRule, allObey, roadsRule, start, sameEnds, newEnds, startFits, roadJoins, meet, pairJoins, pieceFits, pieceRule, pieceSpan, greatestSpan, edgeRule, edgesRule, countsRule, headFits, fewestBlocks, firstRoad, firstEdge}
+use Rattle.records.specs.Format.{Volume, volumeOf, countsOf, wordsOf, tablesOf, Counted, Few, Laid, period-is}
+use Rattle.rules.specs.Rules.{longest, empty, endsFit, begins, placed, pointFits, nextSecond, nextDuration, pointRule, second, duration, roadRule, allObey, roadsRule, start, sameEnds, newEnds, startFits, roadJoins, meet, pairJoins, pieceFits, pieceRule, pieceSpan, greatestSpan, edgeRule, edgesRule, countsRule, headFits, fewestBlocks, firstRoad, firstEdge}
 use Rattle.volume.specs.Sound.{Points, SoundRoad, RoadPiece, PairPiece, SoundEdge, Sound}
-use Rattle.volume.specs.Passes.{ends-fact, placed-fact}
-use Rattle.volume.specs.EdgeSteps.{EdgeTests, edge-tests, edge-spans}
+use Rattle.rules.specs.Facts.{ends-fact, placed-fact}
+use Rattle.rules.specs.EdgeSteps.{EdgeTests, edge-tests, edge-spans}
 use Rattle.volume.specs.Open.{recordsOf, openOf}
 use Rattle.volume.specs.OpenSteps.{head-few, counted-of, laid-of}
-use Rattle.volume.specs.declared.tables.Counts.{Counts}
+use Rattle.records.specs.declared.tables.Counts.{Counts}
 use Rattle.volume.specs.declared.Opening.the-variants.{Opened, Refused}
 
 -- roads

@@ -12,10 +12,10 @@ use lib.ListN.{length, getD, set, replicate, length-set, length-replicate, getD-
 use lib.Seq.{getD-set-same, getD-set-other}
 use borrow.Author.Tests.{eqb-true, eqb-false, lt-ltb, le-ltb}
 use Rattle.block.specs.Choose.{choose, choose-yes, choose-no, both, both-yes, both-right}
-use Rattle.volume.specs.Format.{Volume}
-use Rattle.volume.specs.Rules.{newEnds}
-use Rattle.volume.specs.EdgeSteps.{new-found, new-none}
-use Rattle.volume.specs.Index.{nextFrom, next-low, next-high, next-begins, next-skips}
+use Rattle.records.specs.Format.{Volume}
+use Rattle.rules.specs.Rules.{newEnds}
+use Rattle.rules.specs.EdgeSteps.{new-found, new-none, Fresh}
+use Rattle.records.specs.Index.{nextFrom, next-low, next-high, next-begins, next-skips}
 
 -- an earlier edge has the two ends of edge e
 pub record Repeats (vol : Volume) (e : ℕ) : Type 0 where
@@ -33,10 +33,6 @@ pub record LeastBelow (vol : Volume) (u r : ℕ) : Type 0 where
 -- the same of all edges with both ends below N
 abbrev pub FirstRepeat : Volume → ℕ → Type 0
 FirstRepeat vol r = LeastBelow vol (vol .junctions) r
-
--- no earlier edge has the ends of edge e, if they lie below N
-abbrev pub Fresh : Volume → ℕ → Type 0
-Fresh vol e = vol .edge-from e < vol .junctions → vol .edge-to e < vol .junctions → newEnds vol e ≡ true
 
 -- no stamp is above u: no junction bears the stamp u + 1 of junction u yet
 pub record Stamped (n u : ℕ) (stamps : List ℕ) : Type 0 where

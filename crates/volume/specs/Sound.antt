@@ -3,8 +3,8 @@
 use Prim.Native.Nat.{ℕ, _+_, _-_, _≤_, _<_}
 use mathlib.Core.Path.{_≡_}
 use mathlib.Core.Logic.{_≢_}
-use Rattle.volume.specs.Format.{Volume}
-use Rattle.volume.specs.Rules.{longest, mostSpan, empty, begins, second, duration, start}
+use Rattle.records.specs.Format.{Volume}
+use Rattle.rules.specs.Rules.{longest, mostSpan, empty, begins, second, duration, start}
 
 -- n points with seconds s and durations d, in a period
 pub record Points (period n : ℕ) (s d : ℕ → ℕ) : Type 0 where

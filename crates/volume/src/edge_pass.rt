@@ -1,16 +1,16 @@
 // The pass over the edges, and the lists that it works with.
-use crate::edges::edge_fits;
-use crate::index::index_edges;
-use crate::kept::keep;
 use crate::repeats::first_repeat;
-use crate::roads::Pass;
-use crate::tables::Counts;
-use crate::tables::Tables;
-use crate::tables::edge_pieces;
+use crate::road_pass::Pass;
+use records::index::index_edges;
+use records::tables::Counts;
+use records::tables::Tables;
+use records::tables::edge_pieces;
+use rules::edges::edge_fits;
+use rules::kept::keep;
 ghost use mathlib.Core.Path.{_≡_};
 ghost use Prim.Native.Nat.{_*_, _≤_};
 ghost use lib.ListN.{length};
-ghost use Rattle.volume.specs.Format.{volumeOf, Counted, Few, Laid};
+ghost use Rattle.records.specs.Format.{volumeOf, Counted, Few, Laid};
 ghost use Rattle.volume.specs.Passes.{edgesPass};
 ghost use Rattle.volume.specs.Repeats.{Stamped, FirstRepeat};
 

@@ -1,30 +1,27 @@
-// Volumes: what the content words mean, the road and edge rules, and opening. Answers to document 01,
-// "The volume". Travel times are said in the crate `travel`.
+// Opening a volume: the head, the passes over all roads and all edges, and the first refusal with its place. Answers to document 01,
+// "The volume". What the words mean is the crate `records`', when one road or edge obeys `rules`'. Travel times are said in the crate
+// `travel`.
 use crate::edge_pass::edges_pass;
-use crate::roads::Pass;
-use crate::roads::roads_pass;
-use crate::tables::Counts;
-use crate::tables::Tables;
-use crate::tables::tables_of;
-use crate::tables::words_of;
+use crate::road_pass::Pass;
+use crate::road_pass::roads_pass;
 use block::content;
 use block::first_bad;
 use block::is_whole;
+use records::tables::Counts;
+use records::tables::Tables;
+use records::tables::tables_of;
+use records::tables::words_of;
 ghost use mathlib.Core.Path.{_≡_};
 ghost use Prim.Native.Nat.{_*_, _/_, _≤_};
 ghost use lib.ListN.{length};
 ghost use Rattle.block.specs.Choose.{choose};
-ghost use Rattle.volume.specs.Format.{volumeOf, countsOf, tablesOf, Few, Laid};
-ghost use Rattle.volume.specs.Rules.{headFits, fillerZero, countsRule};
+ghost use Rattle.records.specs.Format.{volumeOf, countsOf, tablesOf, Few, Laid};
+ghost use Rattle.rules.specs.Rules.{headFits, fillerZero, countsRule};
 ghost use Rattle.volume.specs.Open.{recordsOf, openOf};
 
 pub mod edge_pass;
-pub mod edges;
-pub mod index;
-pub mod kept;
 pub mod repeats;
-pub mod roads;
-pub mod tables;
+pub mod road_pass;
 
 pub enum Opening {
     Opened(Counts),

@@ -1,13 +1,13 @@
 // The first edge whose two ends an earlier edge has, found in one walk over the edges of each junction: a junction that an edge
 // reaches is stamped with where the edge begins, so that a second such edge finds the stamp.
-use crate::tables::Counts;
-use crate::tables::Tables;
-use crate::tables::edge_to;
+use records::tables::Counts;
+use records::tables::Tables;
+use records::tables::edge_to;
 ghost use mathlib.Core.Path.{_≡_};
 ghost use Prim.Native.Nat.{_+_, _≤_, _<_};
 ghost use lib.ListN.{length};
-ghost use Rattle.volume.specs.Format.{volumeOf, Counted, Few, Laid};
-ghost use Rattle.volume.specs.Index.{Linked};
+ghost use Rattle.records.specs.Format.{volumeOf, Counted, Few, Laid};
+ghost use Rattle.records.specs.Index.{Linked};
 ghost use Rattle.volume.specs.Repeats.{bears, stampedOn, Stamped, LeastBelow, FirstRepeat};
 
 // Stamps junction w, if it lies below n: did it bear the stamp already?

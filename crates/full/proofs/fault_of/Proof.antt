@@ -4,7 +4,7 @@ use lib.ListN.{replicate, length-replicate}
 use borrow.Author.Needs.{needs}
 use Rattle.full.specs.Turns.{ready}
 use Rattle.full.specs.FaultFound.{faults-road, faults-pair}
-use Rattle.volume.specs.Format.{volumeOf}
+use Rattle.records.specs.Format.{volumeOf}
 use Rattle.travel.specs.Digest.{digest-made}
 use Rattle.full.proofs.Tags.{other-than-full}
 use Rattle.full.proofs.fault_of.Statement.{statement}

@@ -4,7 +4,7 @@ use native.Mathlib.Omega.{arith}
 use borrow.Author.Needs.{needs}
 use Rattle.full.specs.FaultRow.{NoFault, fault-go, fault-stop, fault-end}
 use Rattle.full.specs.Fault.{isFull, rightsFault, leftsFault}
-use Rattle.volume.specs.Format.{volumeOf}
+use Rattle.records.specs.Format.{volumeOf}
 use Rattle.block.specs.First.{first-start}
 use Rattle.full.proofs.Tags.{other-than-full}
 use Rattle.full.proofs.lefts_fault.Statement.{statement}

@@ -3,7 +3,7 @@ use native.Mathlib.Omega.{arith}
 use borrow.Author.Needs.{needs}
 use Rattle.full.specs.FaultFound.{fault-low, fault-back, pair-fault-by}
 use Rattle.full.specs.Turns.{names-pair}
-use Rattle.volume.specs.Format.{volumeOf}
+use Rattle.records.specs.Format.{volumeOf}
 use Rattle.full.proofs.pair_fault.Statement.{statement}
 use Rattle.full.proofs.pair_fault.Tie as tie
 

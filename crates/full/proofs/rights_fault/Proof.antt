@@ -5,8 +5,8 @@ use borrow.Author.Needs.{needs}
 use Rattle.full.specs.FaultRow.{fault-none, fault-stop, fault-end}
 use Rattle.full.specs.FaultFound.{fault-high, Walked, walk-start, walk-next}
 use Rattle.full.specs.Fault.{pairFault, rightsFault}
-use Rattle.volume.specs.Index.{next-low, link-next}
-use Rattle.volume.specs.Format.{volumeOf}
+use Rattle.records.specs.Index.{next-low, link-next}
+use Rattle.records.specs.Format.{volumeOf}
 use Rattle.full.proofs.Tags.{other-than-full}
 use Rattle.full.proofs.rights_fault.Statement.{statement}
 use Rattle.full.proofs.rights_fault.Tie as tie

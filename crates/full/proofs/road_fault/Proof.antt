@@ -3,7 +3,7 @@ use native.Mathlib.Omega.{arith}
 use borrow.Author.Needs.{needs}
 use Rattle.full.specs.FaultFound.{road-fault-by}
 use Rattle.full.specs.Turns.{names-road}
-use Rattle.volume.specs.Format.{volumeOf}
+use Rattle.records.specs.Format.{volumeOf}
 use Rattle.full.proofs.road_fault.Statement.{statement}
 use Rattle.full.proofs.road_fault.Tie as tie
 

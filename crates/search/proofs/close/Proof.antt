@@ -1,7 +1,7 @@
 use native.Mathlib.Omega.{arith}
 use borrow.Author.Needs.{needs}
 use Rattle.search.specs.Steps.{report-short, report-closed}
-use Rattle.volume.specs.Format.{volumeOf}
+use Rattle.records.specs.Format.{volumeOf}
 use Rattle.search.specs.Trail.{part-is, trailOf}
 use Rattle.search.proofs.close.Statement.{statement}
 use Rattle.search.proofs.close.Tie as tie

@@ -1,7 +1,7 @@
 use native.Mathlib.Omega.{arith}
 use lib.ListN.{replicate}
-use Rattle.volume.specs.Index.{indexed-linked}
-use Rattle.volume.specs.Format.{volumeOf}
+use Rattle.records.specs.Index.{indexed-linked}
+use Rattle.records.specs.Format.{volumeOf}
 use Rattle.travel.specs.Digest.{digest-made}
 use borrow.Author.Needs.{needs}
 use Rattle.settle.proofs.run_indexed.Statement.{statement}

@@ -9,7 +9,7 @@ use Rattle.settle.specs.Scan.{waits-at}
 use Rattle.settle.specs.Seen.{viewOf, view-linked}
 use Rattle.settle.specs.Work.{label-at}
 use Rattle.theory.specs.Settling.{upper-end}
-use Rattle.volume.specs.Format.{volumeOf}
+use Rattle.records.specs.Format.{volumeOf}
 use Rattle.settle.proofs.units.Statement.{statement}
 use Rattle.settle.proofs.units.Tie as tie
 

@@ -1,5 +1,5 @@
 use native.Mathlib.Omega.{arith}
-use Rattle.volume.specs.Format.{volumeOf}
+use Rattle.records.specs.Format.{volumeOf}
 use Rattle.travel.specs.Digest.{laid-out, digest-made}
 use borrow.Author.Needs.{needs}
 use Rattle.travel.proofs.edge_digested.Statement.{statement}

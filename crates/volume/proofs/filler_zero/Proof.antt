@@ -5,7 +5,7 @@ use mathlib.Core.Path.{sym, _∙_}
 use lib.Dec.{eqb}
 use borrow.Author.Tests.{eq-eqb, ne-eqb}
 use borrow.Author.Needs.{needs}
-use Rattle.volume.specs.Rules.{fillerZero}
+use Rattle.rules.specs.Rules.{fillerZero}
 use Rattle.block.specs.First.{Passed, first-start, first-go, all-stop, all-end}
 use Rattle.block.specs.Word.{contentAt}
 use Rattle.volume.proofs.filler_zero.Statement.{statement}

@@ -1,5 +1,5 @@
 use borrow.Author.Needs.{needs}
-use Rattle.volume.specs.Format.{volumeOf}
+use Rattle.records.specs.Format.{volumeOf}
 use Rattle.volume.proofs.head.Statement.{statement}
 use Rattle.volume.proofs.head.Tie as tie
 

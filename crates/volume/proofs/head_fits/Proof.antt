@@ -1,6 +1,6 @@
 use mathlib.Core.Path.{sym, _∙_}
 use borrow.Author.Tests.{le-leb, lt-leb}
-use Rattle.volume.specs.Rules.{headFits}
+use Rattle.rules.specs.Rules.{headFits}
 use Rattle.block.specs.Choose.{both-yes, both-no}
 use Rattle.volume.proofs.head_fits.Statement.{statement}
 use Rattle.volume.proofs.head_fits.Tie as tie

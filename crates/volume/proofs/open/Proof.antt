@@ -3,7 +3,7 @@ use native.Mathlib.Omega.{arith}
 use borrow.Author.Tests.{not-true, not-false}
 use borrow.Author.Needs.{needs}
 use Rattle.volume.specs.Open.{open-length, open-block, open-edition, open-rest}
-use Rattle.volume.specs.Format.{volumeOf}
+use Rattle.records.specs.Format.{volumeOf}
 use Rattle.block.specs.Whole.{whole-fact}
 use Rattle.volume.proofs.open.Statement.{statement}
 use Rattle.volume.proofs.open.Tie as tie

@@ -3,7 +3,7 @@ use native.Mathlib.Omega.{arith}
 use borrow.Author.Tests.{not-true, not-false, eq-eqb, ne-eqb}
 use borrow.Author.Needs.{needs}
 use Rattle.volume.specs.OpenSteps.{head-few, laid-of, counts-rule}
-use Rattle.volume.specs.Rules.{fewestBlocks}
+use Rattle.rules.specs.Rules.{fewestBlocks}
 use Rattle.block.specs.Choose.{choose-yes, choose-no, both-yes, both-no}
 use Rattle.volume.proofs.open_counts.Statement.{statement}
 use Rattle.volume.proofs.open_counts.Tie as tie

@@ -1,7 +1,7 @@
 use mathlib.Core.Path.{sym, _∙_}
 use borrow.Author.Needs.{needs}
 use Rattle.volume.specs.OpenSteps.{counted-of, pass-faulty, pass-whole, records-road, records-edge, records-fine}
-use Rattle.volume.specs.Format.{volumeOf}
+use Rattle.records.specs.Format.{volumeOf}
 use Rattle.volume.proofs.open_records.Statement.{statement}
 use Rattle.volume.proofs.open_records.Tie as tie
 

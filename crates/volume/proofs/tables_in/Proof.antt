@@ -1,5 +1,5 @@
 use mathlib.Core.Path.{_∙_, ap}
-use Rattle.volume.specs.Format.{tablesOf}
+use Rattle.records.specs.Format.{tablesOf}
 use borrow.Author.Needs.{needs}
 use Rattle.volume.proofs.tables_in.Statement.{statement}
 use Rattle.volume.proofs.tables_in.Tie as tie

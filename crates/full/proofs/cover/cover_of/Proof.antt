@@ -2,7 +2,7 @@ use mathlib.Core.Path.{sym, _∙_}
 use native.Mathlib.Omega.{arith}
 use Rattle.full.specs.CoverFound.{edge-high, cover-missing, cover-fine, cover-late}
 use Rattle.full.specs.Cover.{named}
-use Rattle.volume.specs.Format.{volumeOf, period-is}
+use Rattle.records.specs.Format.{volumeOf, period-is}
 use Rattle.full.proofs.cover.cover_of.Statement.{statement}
 use Rattle.full.proofs.cover.cover_of.Tie as tie
 

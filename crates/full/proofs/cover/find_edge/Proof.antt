@@ -3,9 +3,8 @@ use mathlib.Core.Path.{sym, _∙_}
 use native.Mathlib.Omega.{arith}
 use borrow.Author.Needs.{needs}
 use Rattle.full.specs.CoverFound.{edge-found, edge-none}
-use Rattle.volume.specs.Index.{NoneBefore, none-first, none-next}
-use Rattle.volume.specs.Index.{next-low, link-next}
-use Rattle.volume.specs.Format.{volumeOf}
+use Rattle.records.specs.Index.{NoneBefore, none-first, none-next, next-low, link-next}
+use Rattle.records.specs.Format.{volumeOf}
 use Rattle.full.proofs.cover.find_edge.Statement.{statement}
 use Rattle.full.proofs.cover.find_edge.Tie as tie
 

@@ -3,7 +3,7 @@ use native.Mathlib.Omega.{arith}
 use borrow.Author.Needs.{needs}
 use Rattle.full.specs.Parts.{Begins, begins-first, begins-next, piece-named, piece-bounds, late-inside, late-past, late-never}
 use Rattle.full.specs.Cover.{named, noSlower}
-use Rattle.volume.specs.Format.{volumeOf}
+use Rattle.records.specs.Format.{volumeOf}
 use Rattle.block.specs.First.{Passed, first-start}
 use Rattle.travel.specs.Digest.{laid-out}
 use Rattle.full.proofs.cover.first_late.Statement.{statement}

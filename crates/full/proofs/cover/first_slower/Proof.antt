@@ -5,7 +5,7 @@ use borrow.Author.Needs.{needs}
 use Rattle.full.specs.Turns.{turn-late, turn-in-time, turn-same}
 use Rattle.full.specs.Runs.{firstFrom, from-go, from-stop, from-end, from-all}
 use Rattle.full.specs.Cover.{named, notAfter}
-use Rattle.volume.specs.Format.{volumeOf}
+use Rattle.records.specs.Format.{volumeOf}
 use Rattle.full.proofs.cover.first_slower.Statement.{statement}
 use Rattle.full.proofs.cover.first_slower.Tie as tie
 

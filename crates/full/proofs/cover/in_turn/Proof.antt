@@ -1,6 +1,6 @@
 use native.Mathlib.Omega.{arith}
 use Rattle.full.specs.Turns.{road-turn, pair-turn}
-use Rattle.volume.specs.Format.{volumeOf, period-is}
+use Rattle.records.specs.Format.{volumeOf, period-is}
 use Rattle.full.proofs.cover.in_turn.Statement.{statement}
 use Rattle.full.proofs.cover.in_turn.Tie as tie
 

@@ -2,7 +2,7 @@ use mathlib.Core.Path.{sym, _∙_}
 use native.Mathlib.Omega.{arith}
 use borrow.Author.Needs.{needs}
 use Rattle.full.specs.Parts.{end-next, end-last}
-use Rattle.volume.specs.Format.{volumeOf, period-is}
+use Rattle.records.specs.Format.{volumeOf, period-is}
 use Rattle.full.proofs.cover.piece_end.Statement.{statement}
 use Rattle.full.proofs.cover.piece_end.Tie as tie
 

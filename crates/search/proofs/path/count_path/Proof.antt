@@ -3,7 +3,7 @@ use mathlib.Core.Path.{refl}
 use native.Mathlib.Omega.{arith}
 use lib.ListN.{length, getD}
 use borrow.Author.Needs.{needs}
-use Rattle.volume.specs.Format.{volumeOf}
+use Rattle.records.specs.Format.{volumeOf}
 use Rattle.search.specs.Path.{Driven, drive-none, drive-all, drive-enters, drive-more}
 use Rattle.search.proofs.path.count_path.Statement.{statement}
 use Rattle.search.proofs.path.count_path.Tie as tie

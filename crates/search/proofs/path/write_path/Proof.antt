@@ -5,7 +5,7 @@ use native.Mathlib.Omega.{arith}
 use lib.Seq.{take-all}
 use lib.ListN.{length, getD, take}
 use borrow.Author.Needs.{needs}
-use Rattle.volume.specs.Format.{volumeOf}
+use Rattle.records.specs.Format.{volumeOf}
 use Rattle.theory.specs.Unfold.{path-of}
 use Rattle.travel.specs.Network.{roadsOf}
 use Rattle.travel.specs.Written.{withRoads, count-in, room-after, two-written}

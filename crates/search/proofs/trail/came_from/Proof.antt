@@ -2,7 +2,7 @@ use Prim.Native.Nat.{_-_}
 use mathlib.Core.Path.{_≡_}
 use native.Mathlib.Omega.{arith}
 use borrow.Author.Needs.{needs}
-use Rattle.volume.specs.Format.{volumeOf}
+use Rattle.records.specs.Format.{volumeOf}
 use Rattle.search.specs.Trail.{turned, turned-low, climbed, descended}
 use Rattle.search.proofs.trail.came_from.Statement.{statement}
 use Rattle.search.proofs.trail.came_from.Tie as tie

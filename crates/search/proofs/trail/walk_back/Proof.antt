@@ -3,7 +3,7 @@ use mathlib.Core.Path.{_≡_}
 use native.Mathlib.Omega.{arith}
 use lib.ListN.{length, length-set}
 use borrow.Author.Needs.{needs}
-use Rattle.volume.specs.Format.{volumeOf}
+use Rattle.records.specs.Format.{volumeOf}
 use Rattle.search.specs.Trail.{Walked, walk-begins, arc-known, walk-home, walk-over, walk-turn, walk-edge}
 use Rattle.search.proofs.trail.walk_back.Statement.{statement}
 use Rattle.search.proofs.trail.walk_back.Tie as tie

@@ -2,7 +2,7 @@ use native.Mathlib.Omega.{arith}
 use borrow.Author.Needs.{needs}
 use Rattle.settle.specs.Arcs.{lead-up, lead-not-up, lead-down, lead-not-down, lead-unmarked}
 use Rattle.settle.specs.Marked.{mark-one, mark-other}
-use Rattle.volume.specs.Format.{volumeOf}
+use Rattle.records.specs.Format.{volumeOf}
 use Rattle.settle.proofs.arcs.lead_of.Statement.{statement}
 use Rattle.settle.proofs.arcs.lead_of.Tie as tie
 

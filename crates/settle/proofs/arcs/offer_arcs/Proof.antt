@@ -9,8 +9,8 @@ use Rattle.settle.specs.Arcs.{webOf, statesOf, placeOf, place-below}
 use Rattle.settle.specs.Chain.{Rechained}
 use Rattle.settle.specs.Marked.{MarksBelow}
 use Rattle.settle.specs.Work.{labels, Holds}
-use Rattle.volume.specs.Index.{next-low, link-next}
-use Rattle.volume.specs.Format.{volumeOf}
+use Rattle.records.specs.Index.{next-low, link-next}
+use Rattle.records.specs.Format.{volumeOf}
 use Rattle.theory.specs.Settling.{Table, relax}
 use Rattle.settle.proofs.arcs.offer_arcs.Statement.{statement}
 use Rattle.settle.proofs.arcs.offer_arcs.Tie as tie

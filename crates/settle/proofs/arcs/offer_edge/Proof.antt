@@ -5,7 +5,7 @@ use native.Mathlib.Omega.{arith}
 use borrow.Author.Needs.{needs}
 use Rattle.settle.specs.Arcs.{webOf, statesOf, lead-below, arc-skipped, arc-settled, arc-offered, enters-soon, arrives-soon}
 use Rattle.settle.specs.Offered.{rechained-offer}
-use Rattle.volume.specs.Format.{volumeOf}
+use Rattle.records.specs.Format.{volumeOf}
 use Rattle.travel.specs.Digest.{laid-out}
 use Rattle.settle.proofs.arcs.offer_edge.Statement.{statement}
 use Rattle.settle.proofs.arcs.offer_edge.Tie as tie

@@ -1,6 +1,6 @@
 use native.Mathlib.Omega.{arith}
 use borrow.Author.Needs.{needs}
-use Rattle.volume.specs.Format.{volumeOf}
+use Rattle.records.specs.Format.{volumeOf}
 use Rattle.settle.specs.Walk.{unit-done}
 use Rattle.settle.proofs.arcs.settle_state.Statement.{statement}
 use Rattle.settle.proofs.arcs.settle_state.Tie as tie

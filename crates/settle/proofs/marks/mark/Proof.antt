@@ -3,7 +3,7 @@ use mathlib.Core.Path.{_≡_}
 use native.Mathlib.Omega.{arith}
 use borrow.Author.Needs.{needs}
 use Rattle.settle.specs.Marked.{Marks, marks-none, marks-more}
-use Rattle.volume.specs.Format.{volumeOf}
+use Rattle.records.specs.Format.{volumeOf}
 use Rattle.settle.proofs.marks.mark.Statement.{statement}
 use Rattle.settle.proofs.marks.mark.Tie as tie
 

@@ -8,8 +8,8 @@ use borrow.Author.Needs.{needs}
 use Rattle.settle.specs.Edges.{OnWalk, on-walk, walk-none}
 use Rattle.settle.specs.Marked.{mark-one, mark-other, falls, falls-away, falls-high, falls-unmarked, mark-destination, mark-above, mark-missing}
 use Rattle.travel.specs.Network.{networkOf}
-use Rattle.volume.specs.Index.{next-low, link-next}
-use Rattle.volume.specs.Format.{volumeOf}
+use Rattle.records.specs.Index.{next-low, link-next}
+use Rattle.records.specs.Format.{volumeOf}
 use Rattle.theory.specs.Marks.{marked}
 use Rattle.settle.proofs.marks.mark_of.Statement.{statement}
 use Rattle.settle.proofs.marks.mark_of.Tie as tie

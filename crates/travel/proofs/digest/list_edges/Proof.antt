@@ -3,7 +3,7 @@ use mathlib.Core.List.{List}
 use mathlib.Core.Path.{_≡_, refl, _∙_, ap}
 use native.Mathlib.Omega.{arith}
 use lib.ListN.{length, length-set}
-use Rattle.volume.specs.Format.{volumeOf}
+use Rattle.records.specs.Format.{volumeOf}
 use Rattle.travel.specs.Digest.{piecesFrom, listed, digestEdges, listed-none, listed-more, pieces-start, pieces-next, pieces-inside}
 use borrow.Author.Needs.{needs}
 use Rattle.travel.proofs.digest.list_edges.Statement.{statement}

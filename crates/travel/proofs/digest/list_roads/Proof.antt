@@ -2,7 +2,7 @@ use Prim.Native.Nat.{ℕ, _+_, _≤_, _-_}
 use mathlib.Core.Path.{_≡_, refl, _∙_, ap}
 use native.Mathlib.Omega.{arith}
 use lib.ListN.{length, length-set, set}
-use Rattle.volume.specs.Format.{volumeOf}
+use Rattle.records.specs.Format.{volumeOf}
 use Rattle.travel.specs.Digest.{steadyOf, listed, listed-none, listed-more}
 use borrow.Author.Needs.{needs}
 use Rattle.travel.proofs.digest.list_roads.Statement.{statement}

@@ -2,7 +2,7 @@ use Prim.Native.Nat.{ℕ, _+_}
 use mathlib.Core.List.{List}
 use mathlib.Core.Path.{_∙_, ap, ap₂}
 use native.Mathlib.Omega.{arith}
-use Rattle.volume.specs.Format.{volumeOf}
+use Rattle.records.specs.Format.{volumeOf}
 use Rattle.travel.specs.Digest.{steadyOf, piecesFrom, listed, digestEdges}
 use borrow.Author.Needs.{needs}
 use Rattle.travel.proofs.digest.make_digest.Statement.{statement}

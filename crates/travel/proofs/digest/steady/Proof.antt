@@ -1,6 +1,6 @@
 use mathlib.Core.Path.{sym, _∙_, ap}
 use native.Mathlib.Omega.{arith}
-use Rattle.volume.specs.Format.{volumeOf}
+use Rattle.records.specs.Format.{volumeOf}
 use Rattle.travel.specs.Digest.{steady-one, steady-none}
 use borrow.Author.Needs.{needs}
 use Rattle.travel.proofs.digest.steady.Statement.{statement}

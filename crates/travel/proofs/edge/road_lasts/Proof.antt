@@ -1,7 +1,7 @@
 use native.Mathlib.Omega.{arith}
 use mathlib.Core.Path.{sym, subst, _∙_}
-use Rattle.volume.specs.Format.{Laid}
-use Rattle.volume.specs.declared.tables.Tables.{Tables}
+use Rattle.records.specs.Format.{Laid}
+use Rattle.records.specs.declared.tables.Tables.{Tables}
 use Rattle.travel.specs.Digest.{laid-some, sound-few, steady-lasts}
 use Rattle.travel.proofs.edge.road_lasts.Statement.{statement}
 use Rattle.travel.proofs.edge.road_lasts.Tie as tie

@@ -1,5 +1,5 @@
 use native.Mathlib.Omega.{arith}
-use Rattle.volume.specs.Format.{period-is}
+use Rattle.records.specs.Format.{period-is}
 use Rattle.travel.specs.Network.{same-second}
 use Rattle.travel.specs.PieceWords.{words-few, words-some, one-word, words-row, word-last}
 use borrow.Author.Needs.{needs}

@@ -2,7 +2,7 @@ use Prim.Native.Nat.{ℕ, _%_, _<_}
 use native.Mathlib.Omega.{arith}
 use native.Mathlib.Nat.{le-refl}
 use borrow.Author.Needs.{needs}
-use Rattle.volume.specs.Format.{volumeOf}
+use Rattle.records.specs.Format.{volumeOf}
 use Rattle.travel.specs.Network.{pieceAt}
 use Rattle.travel.specs.Halves.{road-there, halves}
 use Rattle.travel.specs.PieceWords.{force-held, force-read}

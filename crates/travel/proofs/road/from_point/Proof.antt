@@ -1,7 +1,7 @@
 use Prim.Native.Nat.{_+_}
 use mathlib.Core.Path.{sym, ap₂}
 use native.Mathlib.Omega.{arith}
-use Rattle.volume.specs.Format.{period-is}
+use Rattle.records.specs.Format.{period-is}
 use Rattle.travel.specs.PointsFrom.{next-ends, next-is, over-ends, over-is}
 use borrow.Author.Needs.{needs}
 use Rattle.travel.proofs.road.from_point.Statement.{statement}

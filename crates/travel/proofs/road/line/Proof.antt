@@ -2,7 +2,7 @@ use Prim.Native.Nat.{_-_, _^_}
 use mathlib.Core.Path.{refl}
 use native.Mathlib.Nat.{mul-le-mul}
 use native.Mathlib.Omega.{arith}
-use Rattle.volume.specs.Rules.{longest}
+use Rattle.rules.specs.Rules.{longest}
 use Rattle.travel.specs.Road.{between}
 use borrow.Author.Needs.{needs}
 use Rattle.travel.proofs.road.line.Statement.{statement}

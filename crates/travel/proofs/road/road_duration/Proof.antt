@@ -1,6 +1,6 @@
 use mathlib.Core.Path.{refl}
 use native.Mathlib.Omega.{arith}
-use Rattle.volume.specs.Format.{period-is}
+use Rattle.records.specs.Format.{period-is}
 use Rattle.travel.specs.Network.{same-second}
 use Rattle.travel.specs.PointsFrom.{of-road, points-from, one-is, early-line, early-is, late-line, late-is}
 use Rattle.travel.specs.Row.{seconds-row, seconds-last}

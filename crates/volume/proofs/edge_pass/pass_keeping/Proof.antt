@@ -5,11 +5,12 @@ use lib.ListN.{length}
 use borrow.Author.Tests.{not-true, not-false}
 use borrow.Author.Needs.{needs}
 use Rattle.volume.specs.Repeats.{before-repeat, at-repeat}
-use Rattle.volume.specs.EdgeSteps.{edge-repeats, edge-tests, begin-next}
-use Rattle.volume.specs.Kept.{Kept, kept-none, kept-next, keeping-length, short-edge}
-use Rattle.volume.specs.Passes.{placed-fact, pass-fault, pass-over, pass-fine}
-use Rattle.volume.specs.Rules.{edgeRule, begins}
-use Rattle.volume.specs.Format.{volumeOf}
+use Rattle.rules.specs.EdgeSteps.{edge-repeats, edge-tests, begin-next}
+use Rattle.rules.specs.Kept.{Kept, kept-none, kept-next, keeping-length, short-edge}
+use Rattle.rules.specs.Facts.{placed-fact}
+use Rattle.volume.specs.Passes.{pass-fault, pass-over, pass-fine}
+use Rattle.rules.specs.Rules.{edgeRule, begins}
+use Rattle.records.specs.Format.{volumeOf}
 use Rattle.block.specs.First.{Passed, first-start, first-go}
 use Rattle.volume.proofs.edge_pass.pass_keeping.Statement.{statement}
 use Rattle.volume.proofs.edge_pass.pass_keeping.Tie as tie

@@ -1,6 +1,6 @@
 use native.Mathlib.Omega.{arith}
-use Rattle.volume.specs.Index.{indexed-linked}
-use Rattle.volume.specs.Format.{volumeOf}
+use Rattle.records.specs.Index.{indexed-linked}
+use Rattle.records.specs.Format.{volumeOf}
 use borrow.Author.Needs.{needs}
 use Rattle.volume.proofs.edge_pass.pass_within.Statement.{statement}
 use Rattle.volume.proofs.edge_pass.pass_within.Tie as tie

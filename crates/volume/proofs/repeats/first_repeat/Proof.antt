@@ -4,7 +4,7 @@ use native.Mathlib.Omega.{arith}
 use lib.ListN.{length}
 use borrow.Author.Needs.{needs}
 use Rattle.volume.specs.Repeats.{Stamped, LeastBelow, least-none}
-use Rattle.volume.specs.Format.{volumeOf}
+use Rattle.records.specs.Format.{volumeOf}
 use Rattle.volume.proofs.repeats.first_repeat.Statement.{statement}
 use Rattle.volume.proofs.repeats.first_repeat.Tie as tie
 

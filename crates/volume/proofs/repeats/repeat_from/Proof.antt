@@ -4,8 +4,8 @@ use native.Mathlib.Omega.{arith}
 use lib.ListN.{length}
 use borrow.Author.Needs.{needs}
 use Rattle.volume.specs.Repeats.{Walked, walk-first, walk-meets, walk-goes, walk-finds, walk-ends, stamps-after, stamps-found}
-use Rattle.volume.specs.Index.{next-low, link-next}
-use Rattle.volume.specs.Format.{volumeOf}
+use Rattle.records.specs.Index.{next-low, link-next}
+use Rattle.records.specs.Format.{volumeOf}
 use Rattle.volume.proofs.repeats.repeat_from.Statement.{statement}
 use Rattle.volume.proofs.repeats.repeat_from.Tie as tie
 

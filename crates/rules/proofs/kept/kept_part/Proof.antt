@@ -1,0 +1,35 @@
+use Prim.Native.Nat.{_+_, _*_}
+use mathlib.Core.Path.{refl}
+use native.Mathlib.Omega.{arith}
+use borrow.Author.Needs.{needs}
+use Rattle.rules.proofs.kept.kept_part.Statement.{statement}
+use Rattle.rules.proofs.kept.kept_part.Tie as tie
+
+mul-result : tie.Need-mul-result
+mul-result c = search needs
+
+add-result : tie.Need-add-result
+add-result c = search needs
+
+mul-result-2 : tie.Need-mul-result-2
+mul-result-2 c = search needs
+
+shared-slice-read-result : tie.Need-shared-slice-read-result
+shared-slice-read-result c = search needs
+
+cast-result : tie.Need-cast-result
+cast-result c = let a = c .before .args in omega (arith, c .shared-slice-known .given (3 * a .d + a .i))
+
+returns : tie.Need-returns
+returns c = let a = c .before .args in (refl, omega (arith, c .shared-slice-known .given (3 * a .d + a .i)))
+
+pub kept-part-spec : {M : Type 1} → statement M
+kept-part-spec =
+    tie.close
+    (tie.spec
+    mul-result
+    add-result
+    mul-result-2
+    shared-slice-read-result
+    cast-result
+    returns)

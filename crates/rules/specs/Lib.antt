@@ -1,0 +1,5 @@
+pub mod Rules
+pub mod Facts
+pub mod RoadSteps
+pub mod EdgeSteps
+pub mod Kept
