@@ -19,7 +19,7 @@ ghost use Prim.Native.Nat.{_+_, _≤_, _<_};
 ghost use lib.ListN.{length};
 ghost use Rattle.records.specs.Format.{volumeOf, Counted, Few, Laid};
 ghost use Rattle.records.specs.Index.{Linked};
-ghost use Rattle.travel.specs.Digest.{digestEdges, Digest};
+ghost use Rattle.travel.specs.Digest.{Digest};
 ghost use Rattle.volume.specs.Sound.{Sound};
 ghost use Rattle.settle.specs.Marked.{MarksBelow};
 ghost use Rattle.settle.specs.Outcome.{Ran};
@@ -130,7 +130,7 @@ fn run_indexed(
     requires { ⌜ Counted (volumeOf (now v)) c ⌝ }
     requires { ⌜ Few c ⌝ }
     requires { ⌜ Sound (volumeOf (now v)) ⌝ }
-    requires { ⌜ (c .edges ≤ length (now next)) × (digestEdges + c .edges < length (now digest)) ⌝ }
+    requires { ⌜ (c .edges ≤ length (now next)) × (c .edges + c .roads < length (now digest)) ⌝ }
     requires { ⌜ Question (volumeOf (now v)) from to departure budget (now work) ⌝ }
     ensures { λ r. ⌜ Ran (volumeOf (now (v .entry))) from to departure budget (now (work .entry)) (now (work .exit)) r ⌝ }
 {
@@ -156,7 +156,7 @@ fn run_indexed(
 }
 
 // Runs the rule from `from` to `to`: what it ends with, and the labels in the first 8 N work numbers, whatever they held before. Few
-// edges get short lists for their index and the digest, as in opening.
+// roads and edges get short lists for the index and the digest.
 pub fn run(
     v: &[u8],
     t: Tables,
@@ -174,8 +174,8 @@ pub fn run(
     requires { ⌜ Question (volumeOf (now v)) from to departure budget (now work) ⌝ }
     ensures { λ r. ⌜ Ran (volumeOf (now (v .entry))) from to departure budget (now (work .entry)) (now (work .exit)) r ⌝ }
 {
-    if c.edges <= 1024 {
-        let mut next = [0u16; 1024];
+    if c.edges + c.roads < SHORT {
+        let mut next = [0u16; SHORT];
         let mut digest = [0u32; SHORT];
         return run_indexed(
             v,

@@ -1,6 +1,6 @@
 -- The digest of a volume: what the code lists once so that an edge's time need not read the sealed words for it. Of each road with one
 -- point its duration, which is the same at every second, of any other road 0; of each edge the content word at which its pieces begin.
-use Prim.Native.Nat.{ℕ, zero, suc, _+_, _*_, _%_, _≤_, _<_}
+use Prim.Native.Nat.{ℕ, zero, suc, _+_, _-_, _*_, _%_, _≤_, _<_}
 use mathlib.Core.Path.{_≡_, refl, ap, ap₂, sym, _∙_}
 use mathlib.Core.Logic.{_≢_}
 use mathlib.Core.List.{List}
@@ -88,19 +88,19 @@ unfoldable pub listed : ℕ → (ℕ → ℕ) → ℕ → List ℕ → List ℕ
 listed o f zero l = l
 listed o f (suc n) l = set (listed o f n l) (o + n) (f n)
 
--- the place at which the edges stand: behind as many as a volume may have roads
-abbrev pub digestEdges : ℕ
-digestEdges = 4096
+-- the same of the roads from the last one back
+abbrev pub steadyBack : Volume → ℕ → ℕ
+steadyBack vol i = steadyOf vol (vol .roads - 1 - i)
 
--- the list with the digest: the roads, and from `digestEdges` on the edges and the end of the last
+-- the list with the digest: the edges and the end of the last in the first places, and the roads in the last places, the last road first
 abbrev pub digestOf : Volume → List ℕ → List ℕ
-digestOf vol l = listed digestEdges (piecesFrom vol) (vol .edges + 1) (listed 0 (steadyOf vol) (vol .roads) l)
+digestOf vol l = listed (length l - vol .roads) (steadyBack vol) (vol .roads) (listed 0 (piecesFrom vol) (vol .edges + 1) l)
 
 -- the list holds the digest
 pub record Digest (vol : Volume) (l : List ℕ) : Type 0 where
-  pub room : digestEdges + vol .edges < length l
-  pub roads : (k : ℕ) → k < vol .roads → getD l k 0 ≡ steadyOf vol k
-  pub edges : (e : ℕ) → e ≤ vol .edges → getD l (digestEdges + e) 0 ≡ piecesFrom vol e
+  pub room : vol .edges + vol .roads < length l
+  pub roads : (k : ℕ) → k < vol .roads → getD l (length l - 1 - k) 0 ≡ steadyOf vol k
+  pub edges : (e : ℕ) → e ≤ vol .edges → getD l e 0 ≡ piecesFrom vol e
 
 -- with no place written, and one more
 pub listed-none : (o : ℕ) (f : ℕ → ℕ) (l : List ℕ) → l ≡ listed o f 0 l
@@ -141,25 +141,33 @@ listed-before o f (suc n) l j h =
     ∙ listed-before o f n l j h
 
 -- the list with the digest holds it
-pub digest-made : (vol : Volume) (l : List ℕ) → vol .roads ≤ digestEdges → digestEdges + vol .edges < length l → Digest vol (digestOf vol l)
-digest-made vol l few room = record {
-  room = omega (arith, long, edges-long);
+pub digest-made : (vol : Volume) (l : List ℕ) → vol .edges + vol .roads < length l → Digest vol (digestOf vol l)
+digest-made vol l room = record {
+  room = omega (arith, long, all-long);
   roads = λ k h.
-      let z : k ≡ 0 + k = omega arith in
-      listed-before digestEdges (piecesFrom vol) (vol .edges + 1) one k (omega arith)
+      let at : length (digestOf vol l) - 1 - k ≡ begin + (vol .roads - 1 - k) = omega (arith, long, all-long) in
+      let back : vol .roads - 1 - (vol .roads - 1 - k) ≡ k = omega arith in
+      ap (λ (j : ℕ). getD (digestOf vol l) j 0) at
+      ∙ listed-at begin (steadyBack vol) (vol .roads) one (vol .roads - 1 - k) (omega arith) (omega (arith, long))
+      ∙ ap (steadyOf vol) back;
+  edges = λ e h.
+      let z : e ≡ 0 + e = omega arith in
+      listed-before begin (steadyBack vol) (vol .roads) one e (omega arith)
       ∙ ap (λ (j : ℕ). getD one j 0) z
-      ∙ listed-at 0 (steadyOf vol) (vol .roads) l k h (omega arith);
-  edges = λ e h. listed-at digestEdges (piecesFrom vol) (vol .edges + 1) one e (omega arith) (omega (arith, long));
+      ∙ listed-at 0 (piecesFrom vol) (vol .edges + 1) l e (omega arith) (omega arith);
 }
   where
+    begin : ℕ
+    begin = length l - vol .roads
+
     one : List ℕ
-    one = listed 0 (steadyOf vol) (vol .roads) l
+    one = listed 0 (piecesFrom vol) (vol .edges + 1) l
 
     long : length one ≡ length l
-    long = listed-length 0 (steadyOf vol) (vol .roads) l
+    long = listed-length 0 (piecesFrom vol) (vol .edges + 1) l
 
-    edges-long : length (digestOf vol l) ≡ length one
-    edges-long = listed-length digestEdges (piecesFrom vol) (vol .edges + 1) one
+    all-long : length (digestOf vol l) ≡ length one
+    all-long = listed-length begin (steadyBack vol) (vol .roads) one
 
 -- the pieces of edge e stand from content word `at` up to content word `end`
 pub record Stands (vol : Volume) (e at end : ℕ) : Type 0 where
@@ -168,7 +176,7 @@ pub record Stands (vol : Volume) (e at end : ℕ) : Type 0 where
 
 -- a sound edge's pieces begin where those of the edge before end, so two neighbours in the digest bound them
 pub stands : {vol : Volume} {l : List ℕ} → Sound vol → Digest vol l → (e : ℕ) → e < vol .edges → (at end : ℕ)
-    → at ≡ getD l (digestEdges + e) 0 → end ≡ getD l (digestEdges + (e + 1)) 0 → Stands vol e at end
+    → at ≡ getD l e 0 → end ≡ getD l (e + 1) 0 → Stands vol e at end
 stands {vol} {l} S D e h at end a b = record {
   begin = a ∙ D .edges e (omega arith) ∙ ap (pieceWord vol) (sym (S .edge e h .laid));
   end-is = b ∙ D .edges (e + 1) (omega arith) ∙ ap (pieceWord vol) (begins-next (vol .edge-first) (vol .edge-pieces) e);

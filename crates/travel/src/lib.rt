@@ -18,7 +18,6 @@ ghost use lib.ListN.{length};
 ghost use Rattle.records.specs.Format.{volumeOf, Counted, Laid};
 ghost use Rattle.volume.specs.Sound.{Sound};
 ghost use Rattle.travel.specs.Network.{Enters, arrival};
-ghost use Rattle.travel.specs.Digest.{digestEdges};
 ghost use Rattle.travel.specs.Times.{roadTimeOf, edgeTimeOf};
 
 pub mod digest;
@@ -55,7 +54,7 @@ fn edge_digested(v: &[u8], t: Tables, c: Counts, e: usize, x: u64, digest: &mut 
     requires { ⌜ Sound (volumeOf (now v)) ⌝ }
     requires { ⌜ Counted (volumeOf (now v)) c ⌝ }
     requires { ⌜ Enters (volumeOf (now v)) e x ⌝ }
-    requires { ⌜ digestEdges + c .edges < length (now digest) ⌝ }
+    requires { ⌜ c .edges + c .roads < length (now digest) ⌝ }
     ensures { λ r. ⌜ x + r ≡ arrival (volumeOf (now (v .entry))) e x ⌝ }
 {
     make_digest(v, t, c, digest);
@@ -64,7 +63,7 @@ fn edge_digested(v: &[u8], t: Tables, c: Counts, e: usize, x: u64, digest: &mut 
 
 // The same for any edge. A short one is unfolded where its pieces stand, since a digest of all roads and edges would take longer than
 // the walk itself: making the list takes what a digest saves for 32 roads, and 16 edges are listed in what it saves for one more. Few
-// edges get a short list, as in opening.
+// roads and edges get a short list.
 fn edge_lasts(v: &[u8], t: Tables, c: Counts, e: usize, x: u64) -> u64
     requires { ⌜ Laid (now v) t ⌝ }
     requires { ⌜ Sound (volumeOf (now v)) ⌝ }
@@ -75,7 +74,7 @@ fn edge_lasts(v: &[u8], t: Tables, c: Counts, e: usize, x: u64) -> u64
     if 16 * edge_span(v, t, e) <= c.edges + 512 {
         return count_roads(v, t, e, x).duration;
     }
-    if c.edges <= 1024 {
+    if c.edges + c.roads < SHORT {
         let mut digest = [0u32; SHORT];
         return edge_digested(v, t, c, e, x, &mut digest);
     }

@@ -42,7 +42,7 @@ roads-fault-requires c κs =
     let i = m .before .before .before .before in
     let s = i .before .before .before .before in
     let few = s .pre .1 .1 .1 in
-    let D = digest-made (volumeOf (s .args .v .now)) (replicate 20481 0) (s .pre .1 .0 .roads-few) (simp length-replicate (omega (arith, s .pre .1 .1 .0 .edges, few))) in
+    let D = digest-made (volumeOf (s .args .v .now)) (replicate 20481 0) (simp length-replicate (omega (arith, s .pre .1 .1 .0 .edges, s .pre .1 .1 .0 .roads, few))) in
     (ready (s .args .v .now) (s .args .t) (s .args .c) (replicate 1024 0) (replicate 16384 0) _ _ (s .pre .0) (s .pre .1 .0) (s .pre .1 .1 .0) (omega arith) (omega arith) (i .index-edges .ensures), (rw (m .make-digest .ensures) D, s .pre .1 .1 .0 .roads))
 
 enum-told : tie.Need-enum-told
@@ -68,7 +68,7 @@ lefts-fault-requires c κs =
     let i = m .before .before .before .before in
     let s = i .before .before .before .before in
     let few = s .pre .1 .1 .1 in
-    let D = digest-made (volumeOf (s .args .v .now)) (replicate 20481 0) (s .pre .1 .0 .roads-few) (simp length-replicate (omega (arith, s .pre .1 .1 .0 .edges, few))) in
+    let D = digest-made (volumeOf (s .args .v .now)) (replicate 20481 0) (simp length-replicate (omega (arith, s .pre .1 .1 .0 .edges, s .pre .1 .1 .0 .roads, few))) in
     (ready (s .args .v .now) (s .args .t) (s .args .c) (replicate 1024 0) (replicate 16384 0) _ _ (s .pre .0) (s .pre .1 .0) (s .pre .1 .1 .0) (omega arith) (omega arith) (i .index-edges .ensures), rw (m .make-digest .ensures) D)
 
 returns-2 : tie.Need-returns-2

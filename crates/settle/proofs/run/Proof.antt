@@ -4,6 +4,9 @@ use borrow.Author.Needs.{needs}
 use Rattle.settle.proofs.run.Statement.{statement}
 use Rattle.settle.proofs.run.Tie as tie
 
+add-if1 : tie.Need-add-if1
+add-if1 c = search needs
+
 slice-aggregate-run-indexed : tie.Need-slice-aggregate-run-indexed
 slice-aggregate-run-indexed c = search needs
 
@@ -44,6 +47,7 @@ pub run-spec : {M : Type 1} → statement M
 run-spec =
     tie.close
     (tie.spec
+    add-if1
     slice-aggregate-run-indexed
     slice-aggregate-run-indexed-2
     run-indexed-requires

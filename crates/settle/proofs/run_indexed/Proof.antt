@@ -48,7 +48,7 @@ units-requires c κs =
     let n = s .pre .1 .0 in
     let few = s .pre .1 .1 .0 in
     let S = s .pre .1 .1 .1 .0 in
-    let D = digest-made (volumeOf (s .args .v .now)) (s .args .digest .now) (S .roads-few) (omega (arith, s .pre .1 .1 .1 .1 .0 .1, n .edges)) in (
+    let D = digest-made (volumeOf (s .args .v .now)) (s .args .digest .now) (omega (arith, s .pre .1 .1 .1 .1 .0 .1, n .edges, n .roads)) in (
       (s .pre .0, n, S),
       (
         rw (g .make-digest .ensures) D,

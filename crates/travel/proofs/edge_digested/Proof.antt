@@ -15,7 +15,7 @@ edge-duration-requires c κs =
     let m = c .before .before .before in
     let s = m .before .before .before .before in
     let S = s .pre .1 .0 in
-    let D = digest-made (volumeOf (s .args .v .now)) (s .args .digest .now) (S .roads-few) (omega (arith, s .pre .1 .1 .0 .edges, s .pre .1 .1 .1 .1)) in
+    let D = digest-made (volumeOf (s .args .v .now)) (s .args .digest .now) (omega (arith, s .pre .1 .1 .0 .edges, s .pre .1 .1 .0 .roads, s .pre .1 .1 .1 .1)) in
     (laid-out (s .pre .0), (S, (rw (m .make-digest .ensures) D, s .pre .1 .1 .1 .0)))
 
 same-length : tie.Need-same-length

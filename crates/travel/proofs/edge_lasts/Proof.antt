@@ -19,6 +19,9 @@ count-roads-requires c κs = search needs
 returns : tie.Need-returns
 returns c = search needs
 
+add-if2 : tie.Need-add-if2
+add-if2 c = search needs
+
 slice-aggregate-edge-digested : tie.Need-slice-aggregate-edge-digested
 slice-aggregate-edge-digested c = search needs
 
@@ -36,7 +39,9 @@ slice-aggregate-edge-digested-2 c = search needs
 edge-digested-requires-2 : tie.Need-edge-digested-requires-2
 edge-digested-requires-2 c κs =
     let s = c .before .before .before .before .before .before .before in
-    (s .pre .0, (s .pre .1 .0, (s .pre .1 .1 .0, (s .pre .1 .1 .1, simp length-replicate (omega (arith, s .pre .1 .1 .0 .edges, s .pre .1 .0 .edges-few))))))
+    let K = s .pre .1 .1 .0 in
+    let S = s .pre .1 .0 in
+    (s .pre .0, (S, (K, (s .pre .1 .1 .1, simp length-replicate (omega (arith, K .edges, K .roads, S .edges-few, S .roads-few))))))
 
 returns-3 : tie.Need-returns-3
 returns-3 c = search needs
@@ -50,6 +55,7 @@ edge-lasts-spec =
     add-if1
     count-roads-requires
     returns
+    add-if2
     slice-aggregate-edge-digested
     edge-digested-requires
     returns-2

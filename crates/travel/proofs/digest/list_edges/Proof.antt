@@ -2,9 +2,9 @@ use Prim.Native.Nat.{ℕ, _+_, _*_, _≤_, _<_, _-_}
 use mathlib.Core.List.{List}
 use mathlib.Core.Path.{_≡_, refl, _∙_, ap}
 use native.Mathlib.Omega.{arith}
-use lib.ListN.{length, length-set}
+use lib.ListN.{length, length-set, set}
 use Rattle.records.specs.Format.{volumeOf}
-use Rattle.travel.specs.Digest.{piecesFrom, listed, digestEdges, listed-none, listed-more, pieces-start, pieces-next, pieces-inside}
+use Rattle.travel.specs.Digest.{piecesFrom, listed, listed-none, listed-more, pieces-start, pieces-next, pieces-inside}
 use borrow.Author.Needs.{needs}
 use Rattle.travel.proofs.digest.list_edges.Statement.{statement}
 use Rattle.travel.proofs.digest.list_edges.Tie as tie
@@ -14,7 +14,7 @@ abbrev Inv-loop : tie.InvT-loop
 Inv-loop v t edges digest₀ word₀ e₀ digest word e =
     (e ≤ edges)
     × (word ≡ piecesFrom (volumeOf v) e)
-    × ((l : List ℕ) → digest₀ ≡ listed digestEdges (piecesFrom (volumeOf v)) 1 l → digest ≡ listed digestEdges (piecesFrom (volumeOf v)) (e + 1) l)
+    × ((l : List ℕ) → digest₀ ≡ listed 0 (piecesFrom (volumeOf v)) 1 l → digest ≡ listed 0 (piecesFrom (volumeOf v)) (e + 1) l)
     × (length digest ≡ length digest₀)
 
 abbrev μ-loop : tie.MeasureT-loop
@@ -63,9 +63,6 @@ add-e c = search needs
 cast-digest-2 : tie.Need-cast-digest-2 Inv-loop μ-loop
 cast-digest-2 c = omega (arith, short c)
 
-add-digest : tie.Need-add-digest Inv-loop μ-loop
-add-digest c = search needs
-
 mul-digest : tie.Need-mul-digest Inv-loop μ-loop
 mul-digest c = search needs
 
@@ -73,7 +70,7 @@ slice-write-digest-2 : tie.Need-slice-write-digest-2 Inv-loop μ-loop
 slice-write-digest-2 c =
     let l = at-loop c in
     let s = start c in
-    let n = length-set (s .args .digest .now) digestEdges (s .args .t .pieces) in
+    let n = length-set (s .args .digest .now) 0 (s .args .t .pieces) in
     omega (arith, l .loop .inv .3, n, s .pre .1 .1 .1, c .before .loop-test .taken)
 
 loop-less : tie.Need-loop-less Inv-loop μ-loop
@@ -83,18 +80,21 @@ loop-again : tie.Need-loop-again Inv-loop μ-loop
 loop-again c =
     let l = at-loop c in
     let d = l .loop .digest in
-    let e = l .loop .e in (
+    let e = l .loop .e in
+    let z : e + 1 ≡ 0 + (e + 1) = omega arith in (
       search needs,
       next-word c,
-      (λ (m : List ℕ) q. listed-more digestEdges (piecesFrom (volumeOf (start c .args .v .now))) (e + 1) m d _ (l .loop .inv .2 m q) (next-word c)),
-      length-set d (digestEdges + (e + 1)) _ ∙ l .loop .inv .3,
+      (λ (m : List ℕ) q.
+          ap (λ (j : ℕ). set d j (l .loop .word + 3 * c .edge-pieces .result)) z
+          ∙ listed-more 0 (piecesFrom (volumeOf (start c .args .v .now))) (e + 1) m d _ (l .loop .inv .2 m q) (next-word c)),
+      length-set d (e + 1) _ ∙ l .loop .inv .3,
     )
 
 same-length : tie.Need-same-length Inv-loop μ-loop
 same-length c =
     let l = c .before in
     let s = l .before .before .before in
-    l .loop .inv .3 ∙ length-set (s .args .digest .now) digestEdges (s .args .t .pieces)
+    l .loop .inv .3 ∙ length-set (s .args .digest .now) 0 (s .args .t .pieces)
 
 returns : tie.Need-returns Inv-loop μ-loop
 returns c =
@@ -102,9 +102,9 @@ returns c =
     let s = l .before .before .before in
     let vol = volumeOf (s .args .v .now) in
     let m = s .args .digest .now in
-    let start = listed-more digestEdges (piecesFrom vol) 0 m m _ (listed-none digestEdges (piecesFrom vol) m) (pieces-start vol (s .args .t .pieces) (s .pre .0 .pieces)) in
+    let start = listed-more 0 (piecesFrom vol) 0 m m _ (listed-none 0 (piecesFrom vol) m) (pieces-start vol (s .args .t .pieces) (s .pre .0 .pieces)) in
     let e : l .loop .e ≡ s .args .edges = omega arith in
-    l .loop .inv .2 m start ∙ ap (λ (n : ℕ). listed digestEdges (piecesFrom vol) (n + 1) m) e
+    l .loop .inv .2 m start ∙ ap (λ (n : ℕ). listed 0 (piecesFrom vol) (n + 1) m) e
 
 pub list-edges-spec : {M : Type 1} → statement M
 list-edges-spec =
@@ -120,7 +120,6 @@ list-edges-spec =
     add-word
     add-e
     cast-digest-2
-    add-digest
     mul-digest
     slice-write-digest-2
     loop-less

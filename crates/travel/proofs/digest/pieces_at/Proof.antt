@@ -1,13 +1,8 @@
-use Prim.Native.Nat.{_+_}
 use mathlib.Core.Path.{refl}
 use native.Mathlib.Omega.{arith}
-use Rattle.travel.specs.Digest.{digestEdges}
 use borrow.Author.Needs.{needs}
 use Rattle.travel.proofs.digest.pieces_at.Statement.{statement}
 use Rattle.travel.proofs.digest.pieces_at.Tie as tie
-
-add-result : tie.Need-add-result
-add-result c = search needs
 
 mul-result : tie.Need-mul-result
 mul-result c = search needs
@@ -16,16 +11,15 @@ shared-slice-read-result : tie.Need-shared-slice-read-result
 shared-slice-read-result c = search needs
 
 cast-result : tie.Need-cast-result
-cast-result c = omega (arith, c .shared-slice-known .given (digestEdges + c .before .args .e))
+cast-result c = omega (arith, c .shared-slice-known .given (c .before .args .e))
 
 returns : tie.Need-returns
-returns c = (refl, omega (arith, c .shared-slice-known .given (digestEdges + c .before .args .e)))
+returns c = (refl, omega (arith, c .shared-slice-known .given (c .before .args .e)))
 
 pub pieces-at-spec : {M : Type 1} → statement M
 pieces-at-spec =
     tie.close
     (tie.spec
-    add-result
     mul-result
     shared-slice-read-result
     cast-result
