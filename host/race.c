@@ -158,7 +158,8 @@ static void measure_limits(struct dice *d) {
     length = net_write(&net, volume);
     print_row("opening, all limits", net.n, race(opening, 21, 4).whole);
     for (number = 0; net.edge[number].span != 1;) number++;
-    print_row("an edge's time, one road, all limits, with opening", net.n, race(edge_time, 21, 4).whole);
+    print_row("an edge's time, one road, all limits, with opening", net.n,
+              race(edge_time, 21, 4).whole);
 }
 
 /* One road of many points in a volume of one block: opening is short there. */
@@ -173,13 +174,15 @@ static void measure_road(void) {
     print_row("a road's time, after opening", net.n, road.after);
 }
 
-/* An edge of the greatest span, where each edge has so many pieces and each road
-   so many points: with one, nothing is left to do but to follow numbers. */
-static void measure_edge(struct dice *d, const char *whole, const char *after, uint32_t parts) {
-    gen_ladder(&net, d, 14, parts);
+/* The last edge of a ladder of n junctions, of 2^(n - 2) roads, where each edge
+   has so many pieces and each road so many points: with one, nothing is left to do
+   but to follow numbers. */
+static void measure_edge(struct dice *d, const char *whole, const char *after, uint32_t n,
+                         uint32_t parts, uint32_t calls) {
+    gen_ladder(&net, d, n, parts);
     length = net_write(&net, volume);
     number = net.e - 1;
-    struct raced edge = race(edge_time, 31, 100);
+    struct raced edge = race(edge_time, 31, calls);
     print_row(whole, net.n, edge.whole);
     print_row(after, net.n, edge.after);
 }
@@ -218,21 +221,47 @@ static void measure_check(struct dice *d, const char *what, uint32_t width, uint
     print_row(what, net.n, race(check, 3, 1).whole);
 }
 
-int main(void) {
+/* Very small volumes, where most of a call is what every call begins with. */
+static void measure_small(struct dice *d) {
+    for (uint32_t n = 3; n <= 9; n++) {
+        measure_edge(d, "an edge's time, one piece each, with opening",
+                     "an edge's time, one piece each, after opening", n, 1, 4000);
+        measure_edge(d, "an edge's time, 24 pieces each, with opening",
+                     "an edge's time, 24 pieces each, after opening", n, 24, 4000);
+    }
+    for (uint32_t side = 2; side <= 8; side++) {
+        if (!make_map(d, side, side)) exit(1);
+        number = 0;
+        struct raced found = race(search, 31, 16 * QUESTIONS);
+        print_row("a search, with opening", net.n, found.whole);
+        print_row("a search, after opening", net.n, found.after);
+    }
+}
+
+static void measure_all(struct dice *dice) {
+    measure_limits(dice);
+    measure_road();
+    measure_edge(dice, "an edge's time, span 4,096, 24 pieces each, with opening",
+                 "an edge's time, span 4,096, 24 pieces each, after opening", 14, 24, 100);
+    measure_edge(dice, "an edge's time, span 4,096, one piece each, with opening",
+                 "an edge's time, span 4,096, one piece each, after opening", 14, 1, 100);
+    measure_search(dice, 10, 10);
+    measure_search(dice, 15, 20);
+    measure_search(dice, 32, 32);
+    measure_check(dice, "the full check, a line; for the twin: at every second", 1, 100);
+    measure_check(dice, "the full check, a strip; for the twin: at every second", 4, 25);
+    measure_check(dice, "the full check, a grid; for the twin: at every second", 10, 10);
+    measure_check(dice, "the full check, another grid; for the twin: at every second", 10, 10);
+}
+
+/* With any word: very small volumes instead. */
+int main(int words, char **word) {
+    (void)word;
     struct dice dice = {7};
     printf("| measured | N | blocks | library | twin | ratio |\n|---|---|---|---|---|---|\n");
-    measure_limits(&dice);
-    measure_road();
-    measure_edge(&dice, "an edge's time, span 4,096, 24 pieces each, with opening",
-                 "an edge's time, span 4,096, 24 pieces each, after opening", 24);
-    measure_edge(&dice, "an edge's time, span 4,096, one piece each, with opening",
-                 "an edge's time, span 4,096, one piece each, after opening", 1);
-    measure_search(&dice, 10, 10);
-    measure_search(&dice, 15, 20);
-    measure_search(&dice, 32, 32);
-    measure_check(&dice, "the full check, a line; for the twin: at every second", 1, 100);
-    measure_check(&dice, "the full check, a strip; for the twin: at every second", 4, 25);
-    measure_check(&dice, "the full check, a grid; for the twin: at every second", 10, 10);
-    measure_check(&dice, "the full check, another grid; for the twin: at every second", 10, 10);
+    if (words > 1)
+        measure_small(&dice);
+    else
+        measure_all(&dice);
     return sum == 0;
 }
