@@ -54,6 +54,10 @@ pub steady-none : (vol : Volume) (k : ℕ) → vol .road-points k ≢ 1 → stea
 unfolding steadyOf
 steady-none vol k n = choose-no _ _ (ne-eqb _ _ n)
 
+-- the roads from the last one back: of the last road first
+abbrev pub steadyBack : Volume → ℕ → ℕ
+steadyBack vol i = steadyOf vol (vol .roads - 1 - i)
+
 -- the content word at which piece p stands
 abbrev pub pieceWord : Volume → ℕ → ℕ
 pieceWord vol p = piecesAt (vol .roads) (vol .points) (vol .edges) + pieceWords * p
@@ -87,10 +91,6 @@ pieces-inside {vol} S e h =
 unfoldable pub listed : ℕ → (ℕ → ℕ) → ℕ → List ℕ → List ℕ
 listed o f zero l = l
 listed o f (suc n) l = set (listed o f n l) (o + n) (f n)
-
--- the same of the roads from the last one back
-abbrev pub steadyBack : Volume → ℕ → ℕ
-steadyBack vol i = steadyOf vol (vol .roads - 1 - i)
 
 -- the list with the digest: the edges and the end of the last in the first places, and the roads in the last places, the last road first
 abbrev pub digestOf : Volume → List ℕ → List ℕ

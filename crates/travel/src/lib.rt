@@ -62,7 +62,7 @@ fn edge_digested(v: &[u8], t: Tables, c: Counts, e: usize, x: u64, digest: &mut 
 }
 
 // The same for any edge. A short one is unfolded where its pieces stand, since a digest of all roads and edges would take longer than
-// the walk itself: making the list takes what a digest saves for 32 roads, and 16 edges are listed in what it saves for one more. Few
+// the walk itself: making a short list takes what a digest saves for 16 roads, and 16 edges are listed in what it saves for one more. Few
 // roads and edges get a short list.
 fn edge_lasts(v: &[u8], t: Tables, c: Counts, e: usize, x: u64) -> u64
     requires { ⌜ Laid (now v) t ⌝ }
@@ -71,7 +71,7 @@ fn edge_lasts(v: &[u8], t: Tables, c: Counts, e: usize, x: u64) -> u64
     requires { ⌜ Enters (volumeOf (now v)) e x ⌝ }
     ensures { λ r. ⌜ x + r ≡ arrival (volumeOf (now (v .entry))) e x ⌝ }
 {
-    if 16 * edge_span(v, t, e) <= c.edges + 512 {
+    if 16 * edge_span(v, t, e) <= c.edges + 256 {
         return count_roads(v, t, e, x).duration;
     }
     if c.edges + c.roads < SHORT {
