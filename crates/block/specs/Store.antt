@@ -3,7 +3,7 @@ use Rattle.std.specs.Prelude.{◌≡◌, ℕ, ◌+◌, ◌*◌, ◌/◌, ◌%◌
 use Rattle.std.proofs.Common.{ap, sym, ◌∙◌, arith, length-set, get_or-set_same, get_or-set_other}
 use Rattle.std.proofs.Math.Nat.{div-div-eq-div-mul, div-eq_of_lt}
 use Rattle.std.proofs.lemmas.List.{set-get_or}
-use Rattle.block.specs.Word.{wordFrom, word_at, putWord}
+use Rattle.block.specs.Word.{word_from, word_at, put_word}
 
 -- every element is a byte
 abbrev pub Bytes : List ℕ → Type 0
@@ -16,13 +16,13 @@ pub record Written (v : List ℕ) (i x : ℕ) : Type 0 where
   pub third : slice_index_or v (4 * i + 2) 0 ≡ x / 65536 % 256
   pub fourth : slice_index_or v (4 * i + 3) 0 ≡ x / 16777216 % 256
 
-pub put-length : (v : List ℕ) (i x : ℕ) → length (putWord v i x) ≡ length v
-unfolding putWord
-put-length v i x = simp length-set
+pub put_length : (v : List ℕ) (i x : ℕ) → length (put_word v i x) ≡ length v
+unfolding put_word
+put_length v i x = simp length-set
 
 -- a byte of another word is as it was
-pub put_byte : (v : List ℕ) (i x j : ℕ) → (j / 4 ≢ i) → slice_index (putWord v i x) j ≡ slice_index v j
-unfolding putWord
+pub put_byte : (v : List ℕ) (i x j : ℕ) → (j / 4 ≢ i) → slice_index (put_word v i x) j ≡ slice_index v j
+unfolding put_word
 put_byte v i x j ne =
     let n₃ : j ≢ 4 * i + 3 = λ e. ne (omega arith) in
     let n₂ : j ≢ 4 * i + 2 = λ e. ne (omega arith) in
@@ -31,8 +31,8 @@ put_byte v i x j ne =
     simp get_or-set_other
 
 -- the word itself is written
-pub put_written : (v : List ℕ) (i x : ℕ) → 4 * i + 3 < length v → Written (putWord v i x) i x
-unfolding putWord
+pub put_written : (v : List ℕ) (i x : ℕ) → 4 * i + 3 < length v → Written (put_word v i x) i x
+unfolding put_word
 put_written v i x room =
     let r₀ : 4 * i < length v = omega arith in
     let r₁ : 4 * i + 1 < length (slice_set v (4 * i) (x % 256)) = rw length-set (omega arith) in
@@ -53,8 +53,8 @@ put_written v i x room =
     }
 
 -- another word stays written
-pub written-kept : (v : List ℕ) (i x j y : ℕ) → (j ≢ i) → Written v j y → Written (putWord v i x) j y
-written-kept v i x j y ne w = record {
+pub written_kept : (v : List ℕ) (i x j y : ℕ) → (j ≢ i) → Written v j y → Written (put_word v i x) j y
+written_kept v i x j y ne w = record {
   first = put_byte v i x (4 * j) (λ e. ne (omega arith)) ∙ w.first;
   second = put_byte v i x (4 * j + 1) (λ e. ne (omega arith)) ∙ w.second;
   third = put_byte v i x (4 * j + 2) (λ e. ne (omega arith)) ∙ w.third;
@@ -66,9 +66,9 @@ same_byte : (v : List ℕ) (i b : ℕ) → slice_index v i ≡ b → slice_set v
 same_byte v i b e = ap (set v i) (sym e) ∙ set-get_or v i 0
 
 -- a word that is written already
-pub put-again : (v : List ℕ) (i x : ℕ) → Written v i x → putWord v i x ≡ v
-unfolding putWord
-put-again v i x w =
+pub put_again : (v : List ℕ) (i x : ℕ) → Written v i x → put_word v i x ≡ v
+unfolding put_word
+put_again v i x w =
     ap
     (λ (l : List ℕ).
     slice_set (slice_set (slice_set l (4 * i + 1) (x / 256 % 256)) (4 * i + 2) (x / 65536 % 256)) (4 * i + 3) (x / 16777216 % 256))
@@ -88,9 +88,9 @@ digits x h =
     omega arith
 
 -- what reads where x is written
-pub written-word : (v : List ℕ) (i x : ℕ) → x < 2 ^ 32 → Written v i x → word_at v i ≡ x
-unfolding word_at wordFrom
-written-word v i x h w =
+pub written_word : (v : List ℕ) (i x : ℕ) → x < 2 ^ 32 → Written v i x → word_at v i ≡ x
+unfolding word_at word_from
+written_word v i x h w =
     let a = w.first in
     let b = w.second in
     let c = w.third in
@@ -99,8 +99,8 @@ written-word v i x h w =
     omega arith
 
 -- every other word reads as it did
-pub put_other : (v : List ℕ) (i x j : ℕ) → (j ≢ i) → word_at (putWord v i x) j ≡ word_at v j
-unfolding word_at wordFrom
+pub put_other : (v : List ℕ) (i x j : ℕ) → (j ≢ i) → word_at (put_word v i x) j ≡ word_at v j
+unfolding word_at word_from
 put_other v i x j ne =
     let a = put_byte v i x (4 * j) (λ e. ne (omega arith)) in
     let b = put_byte v i x (4 * j + 1) (λ e. ne (omega arith)) in
@@ -110,5 +110,5 @@ put_other v i x j ne =
 
 -- a word of bytes has 32 bits
 pub word_fits : (v : List ℕ) (i : ℕ) → Bytes v → word_at v i < 2 ^ 32
-unfolding word_at wordFrom
+unfolding word_at word_from
 word_fits v i b = omega (arith, b (4 * i), b (4 * i + 1), b (4 * i + 2), b (4 * i + 3))

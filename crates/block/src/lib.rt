@@ -2,12 +2,12 @@
 // differ. Answers to document 01, "The volume", first paragraph. What the words mean is said in the
 // crate `records`.
 ghost use Rattle.std.specs.Prelude.{◌≡◌, ◌+◌, ◌*◌, ◌/◌, ◌%◌, ◌<◌, ◌≤◌, length};
-ghost use Rattle.block.specs.Word.{wordFrom, word_at, putWord, contentAt, mostWords, Holds};
+ghost use Rattle.block.specs.Word.{word_from, word_at, put_word, content_at, most_words, Holds};
 ghost use Rattle.block.specs.Sums.{Summed, Gained};
 ghost use Rattle.block.specs.Lanes.{Joined};
 ghost use Rattle.block.specs.Whole.{whole};
-ghost use Rattle.block.specs.Seal.{sealTo, sealed, sealing};
-ghost use Rattle.block.specs.Good.{good, firstBad};
+ghost use Rattle.block.specs.Seal.{seal_to, sealed, sealing};
+ghost use Rattle.block.specs.Good.{good, first_bad};
 
 use std::num::{wrapping_add_u32, wrapping_sub_u32};
 
@@ -21,7 +21,7 @@ fn wide(x: u8) -> u32
 // The word that begins at byte `at` of v, least byte first.
 fn word_from(v: &[u8], at: usize) -> u32
     requires { at + 3 < length v.now }
-    ensures { result ≡ wordFrom v.now at }
+    ensures { result ≡ word_from v.now at }
 {
     let b0 = wide(v[at]);
     let b1 = wide(v[at + 1]);
@@ -41,7 +41,7 @@ pub fn word(v: &[u8], i: usize) -> u32
 // Which block content word w stands in. Every record is read through this, so the division is a multiplication and a shift:
 // 532,611 / 2^26 is so little above 1 / 126 that w / 126 comes out for every w of 3,381 blocks.
 fn block_of(w: usize) -> usize
-    requires { w < mostWords }
+    requires { w < most_words }
     ensures { result ≡ w / 126 }
 {
     w * 532611 / 67108864
@@ -51,7 +51,7 @@ fn block_of(w: usize) -> usize
 // since the compiler makes such a sum a part of the reading instruction.
 pub fn content(v: &[u8], w: usize) -> u32
     requires { Holds v.now w }
-    ensures { result ≡ contentAt v.now w }
+    ensures { result ≡ content_at v.now w }
 {
     word_from(v, 4 * w + 8 * block_of(w))
 }
@@ -65,7 +65,7 @@ pub struct Pair {
 // Content words w and w + 1 for an even w: a block has an even number of them, so the two stand side by side.
 pub fn content_pair(v: &[u8], w: usize) -> Pair
     requires { (w % 2 ≡ 0) × Holds v.now (w + 1) }
-    ensures { (result.first ≡ contentAt v.now w) × (result.second ≡ contentAt v.now (w + 1)) }
+    ensures { (result.first ≡ content_at v.now w) × (result.second ≡ content_at v.now (w + 1)) }
 {
     let at = 4 * w + 8 * block_of(w);
     Pair {
@@ -77,7 +77,7 @@ pub fn content_pair(v: &[u8], w: usize) -> Pair
 // Writes x as word i of v.
 pub fn put_word(v: &mut [u8], i: usize, x: u32)
     requires { 4 * i + 3 < length v.old }
-    ensures { v.new ≡ putWord v.old i x }
+    ensures { v.new ≡ put_word v.old i x }
 {
     let at = 4 * i;
     v[at] = (x % 256) as u8;
@@ -172,7 +172,7 @@ pub enum Sealing {
 // Writes A and B of the first n blocks.
 fn seal_blocks(v: &mut [u8], n: usize)
     requires { (512 * n ≤ length v.old) × (n ≤ 3381) }
-    ensures { v.new ≡ sealTo v.old n }
+    ensures { v.new ≡ seal_to v.old n }
 {
     let mut k: usize = 0;
     while k < n {
@@ -212,7 +212,7 @@ fn carries(v: &[u8], k: usize, s: Sums) -> bool
 // The first of the n blocks of v whose A or B differs from what stands there, or n.
 pub fn first_bad(v: &[u8], n: usize) -> usize
     requires { (512 * n ≤ length v.now) × (n ≤ 3381) }
-    ensures { (result ≡ firstBad v.now n) × (result ≤ n) }
+    ensures { (result ≡ first_bad v.now n) × (result ≤ n) }
 {
     let mut k: usize = 0;
     while k < n {

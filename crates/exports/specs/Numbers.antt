@@ -18,42 +18,42 @@ abbrev pub refused : ℕ → ℕ → Told
 refused number place = record { number = number; values = place ∷ [] }
 
 -- sealing: 0, or the refusal's number
-abbrev pub sealingNumber : List ℕ → ℕ
-sealingNumber v = paper (sealing v)
+abbrev pub sealing_number : List ℕ → ℕ
+sealing_number v = paper (sealing v)
 
 -- opening: N, R, P, E, Q
-abbrev pub openingTold : Opening → Told
-openingTold (Opened c) = record {
+abbrev pub opening_told : Opening → Told
+opening_told (Opened c) = record {
   number = 0;
   values = c.junctions ∷ c.roads ∷ c.points ∷ c.edges ∷ c.pieces ∷ [];
 }
-openingTold (NotOpened number place) = refused number place
+opening_told (NotOpened number place) = refused number place
 
 -- a travel time: the duration
-abbrev pub timingTold : Timing → Told
-timingTold (Lasts duration) = record { number = 0; values = duration ∷ [] }
-timingTold (NotTimed number place) = refused number place
+abbrev pub timing_told : Timing → Told
+timing_told (Lasts duration) = record { number = 0; values = duration ∷ [] }
+timing_told (NotTimed number place) = refused number place
 
 -- four values
 abbrev pub four : ℕ → ℕ → ℕ → ℕ → Told
 four a b c d = record { number = 0; values = a ∷ b ∷ c ∷ d ∷ [] }
 
 -- the check: kind, road or left edge, right edge or 0, second, as on paper
-abbrev pub paperTold : Paper → Told
-paperTold (found kind left right second) = four kind left right second
-paperTold (refusal number place) = refused number place
+abbrev pub paper_told : Paper → Told
+paper_told (found kind left right second) = four kind left right second
+paper_told (refusal number place) = refused number place
 
-abbrev pub verdictTold : Verdict → Told
-verdictTold verdict = paperTold (onPaper verdict)
+abbrev pub verdict_told : Verdict → Told
+verdict_told verdict = paper_told (onPaper verdict)
 
 -- a window: lower end, 1 or 0 for whether there is an upper end, the upper end or 0, used
-abbrev pub windowTold : ℕ → Upper → ℕ → Told
-windowTold lower (At most) used = record { number = 0; values = 2 ∷ lower ∷ 1 ∷ most ∷ used ∷ [] }
-windowTold lower Missing used = record { number = 0; values = 2 ∷ lower ∷ 0 ∷ 0 ∷ used ∷ [] }
+abbrev pub window_told : ℕ → Upper → ℕ → Told
+window_told lower (At most) used = record { number = 0; values = 2 ∷ lower ∷ 1 ∷ most ∷ used ∷ [] }
+window_told lower Missing used = record { number = 0; values = 2 ∷ lower ∷ 0 ∷ 0 ∷ used ∷ [] }
 
 -- the search: kind 0, arrival, used, roads; kind 1, used; kind 2 and the window
-abbrev pub answerTold : Answer → Told
-answerTold (Closed arrival used roads) = four 0 arrival used roads
-answerTold (NoWay used) = record { number = 0; values = 1 ∷ used ∷ [] }
-answerTold (Open lower upper used) = windowTold lower upper used
-answerTold (NotSearched number place) = refused number place
+abbrev pub answer_told : Answer → Told
+answer_told (Closed arrival used roads) = four 0 arrival used roads
+answer_told (NoWay used) = record { number = 0; values = 1 ∷ used ∷ [] }
+answer_told (Open lower upper used) = window_told lower upper used
+answer_told (NotSearched number place) = refused number place

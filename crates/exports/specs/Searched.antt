@@ -2,11 +2,11 @@
 use Rattle.std.specs.Prelude.{ℕ, ◌*◌, ◌<◌, ◌≤◌, ◌≡◌, List, length, ltb}
 use Rattle.std.proofs.Common.{ap, sym, ◌∙◌, lt-ltb, le-ltb}
 use Rattle.block.specs.Choose.{choose, choose_yes, choose_no}
-use Rattle.records.specs.Format.{volumeOf}
-use Rattle.search.specs.Answer.{answer_of, workAfter, pathAfter, pathTold, ruled, Searched}
+use Rattle.records.specs.Format.{volume_of}
+use Rattle.search.specs.Answer.{answer_of, work_after, path_after, path_told, ruled, Searched}
 use Rattle.search.specs.declared.Answer.{Answer}
-use Rattle.exports.specs.Told.{toldNumber, toldPlaces, tells-not}
-use Rattle.exports.specs.Numbers.{answerTold}
+use Rattle.exports.specs.Told.{told_number, told_places, tells_not}
+use Rattle.exports.specs.Numbers.{answer_told}
 
 -- the answer of the search, by the bytes and the rooms
 abbrev pub asked : List ℕ → ℕ → ℕ → ℕ → ℕ → List ℕ → List ℕ → Answer
@@ -14,41 +14,41 @@ asked v from to x b work path = answer_of v from to x b (length work) (length pa
 
 -- with fewer than 8 places in `out` nothing is changed; else the search leaves work and path as it says, and its answer is told
 pub record HostSearched (v : List ℕ) (from to x b : ℕ) (work path out : List ℕ) (r : ℕ) (workOut pathOut outOut : List ℕ) : Type 0 where
-  pub answers : r ≡ toldNumber out (answerTold (asked v from to x b work path))
-  pub tells : outOut ≡ toldPlaces out (answerTold (asked v from to x b work path))
-  pub works : workOut ≡ choose (ltb (length out) 8) work (workAfter (asked v from to x b work path) (8 * (volumeOf v).junctions) work)
+  pub answers : r ≡ told_number out (answer_told (asked v from to x b work path))
+  pub tells : outOut ≡ told_places out (answer_told (asked v from to x b work path))
+  pub works : workOut ≡ choose (ltb (length out) 8) work (work_after (asked v from to x b work path) (8 * (volume_of v).junctions) work)
   pub writes : pathOut
       ≡ choose (ltb (length out) 8) path
-      (pathAfter (asked v from to x b work path) (pathTold (volumeOf v) x (ruled (volumeOf v) from to x b)) path)
+      (path_after (asked v from to x b work path) (path_told (volume_of v) x (ruled (volume_of v) from to x b)) path)
 
 module _ (v : List ℕ) (from to x b : ℕ) (work path out : List ℕ) where
   -- a list `out` that is too short
-  pub host-short : length out < 8 → HostSearched v from to x b work path out 9 work path out
-  host-short h =
-      let told = answerTold (asked v from to x b work path) in
+  pub host_short : length out < 8 → HostSearched v from to x b work path out 9 work path out
+  host_short h =
+      let told = answer_told (asked v from to x b work path) in
       record {
-        answers = (tells-not out told h).0;
-        tells = (tells-not out told h).1;
+        answers = (tells_not out told h).0;
+        tells = (tells_not out told h).1;
         works = sym (choose_yes _ _ (lt-ltb (length out) 8 h));
         writes = sym (choose_yes _ _ (lt-ltb (length out) 8 h));
       }
 
   -- one that is long enough, after the search answered a
-  pub host-long : (a : Answer) (r : ℕ) (workOut pathOut outOut : List ℕ) → 8 ≤ length out → Searched v from to x b work path a workOut pathOut
-      → r ≡ toldNumber out (answerTold a) → outOut ≡ toldPlaces out (answerTold a)
+  pub host_long : (a : Answer) (r : ℕ) (workOut pathOut outOut : List ℕ) → 8 ≤ length out → Searched v from to x b work path a workOut pathOut
+      → r ≡ told_number out (answer_told a) → outOut ≡ told_places out (answer_told a)
       → HostSearched v from to x b work path out r workOut pathOut outOut
-  host-long a r workOut pathOut outOut h s n p = record {
-    answers = n ∙ ap (λ (q : Answer). toldNumber out (answerTold q)) s.answers;
-    tells = p ∙ ap (λ (q : Answer). toldPlaces out (answerTold q)) s.answers;
-    works = s.clears ∙ ap (λ (q : Answer). workAfter q (8 * (volumeOf v).junctions) work) s.answers ∙ sym (choose_no _ _ (le-ltb (length out) 8 h));
+  host_long a r workOut pathOut outOut h s n p = record {
+    answers = n ∙ ap (λ (q : Answer). told_number out (answer_told q)) s.answers;
+    tells = p ∙ ap (λ (q : Answer). told_places out (answer_told q)) s.answers;
+    works = s.clears ∙ ap (λ (q : Answer). work_after q (8 * (volume_of v).junctions) work) s.answers ∙ sym (choose_no _ _ (le-ltb (length out) 8 h));
     writes = s.writes
-        ∙ ap (λ (q : Answer). pathAfter q (pathTold (volumeOf v) x (ruled (volumeOf v) from to x b)) path) s.answers
+        ∙ ap (λ (q : Answer). path_after q (path_told (volume_of v) x (ruled (volume_of v) from to x b)) path) s.answers
         ∙ sym (choose_no _ _ (le-ltb (length out) 8 h));
   }
 
 -- the contract of the search under its C name allows one outcome: number, work area, path list and places of `out`
-pub one-host-search : (v : List ℕ) (from to x b : ℕ) (work path out : List ℕ) (r s : ℕ) (w₁ w₂ p₁ p₂ o₁ o₂ : List ℕ)
+pub one_host_search : (v : List ℕ) (from to x b : ℕ) (work path out : List ℕ) (r s : ℕ) (w₁ w₂ p₁ p₂ o₁ o₂ : List ℕ)
     → HostSearched v from to x b work path out r w₁ p₁ o₁ → HostSearched v from to x b work path out s w₂ p₂ o₂
     → (r ≡ s) × (w₁ ≡ w₂) × (p₁ ≡ p₂) × (o₁ ≡ o₂)
-one-host-search v from to x b work path out r s w₁ w₂ p₁ p₂ o₁ o₂ a c =
+one_host_search v from to x b work path out r s w₁ w₂ p₁ p₂ o₁ o₂ a c =
     (a.answers ∙ sym c.answers, a.works ∙ sym c.works, a.writes ∙ sym c.writes, a.tells ∙ sym c.tells)

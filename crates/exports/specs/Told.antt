@@ -11,55 +11,55 @@ pub record Told : Type 0 where
   pub values : List ℕ
 
 -- the list with the values in its first places, and after them what stood there
-unfoldable pub withFirst : List ℕ → List ℕ → List ℕ
-withFirst values out = values ++ drop (length values) out
+unfoldable pub with_first : List ℕ → List ℕ → List ℕ
+with_first values out = values ++ drop (length values) out
 
 -- what is returned
-unfoldable pub toldNumber : List ℕ → Told → ℕ
-toldNumber out told = choose (ltb (length out) 8) 9 told.number
+unfoldable pub told_number : List ℕ → Told → ℕ
+told_number out told = choose (ltb (length out) 8) 9 told.number
 
 -- what `out` holds afterwards
-unfoldable pub toldPlaces : List ℕ → Told → List ℕ
-toldPlaces out told = choose (ltb (length out) 8) out (withFirst told.values out)
+unfoldable pub told_places : List ℕ → Told → List ℕ
+told_places out told = choose (ltb (length out) 8) out (with_first told.values out)
 
 -- a list that is too short
 
-pub short-number : (out : List ℕ) (told : Told) → length out < 8 → toldNumber out told ≡ 9
-unfolding toldNumber
-short-number out told h = choose_yes _ _ (lt-ltb (length out) 8 h)
+pub short_number : (out : List ℕ) (told : Told) → length out < 8 → told_number out told ≡ 9
+unfolding told_number
+short_number out told h = choose_yes _ _ (lt-ltb (length out) 8 h)
 
-pub short-places : (out : List ℕ) (told : Told) → length out < 8 → toldPlaces out told ≡ out
-unfolding toldPlaces
-short-places out told h = choose_yes _ _ (lt-ltb (length out) 8 h)
+pub short_places : (out : List ℕ) (told : Told) → length out < 8 → told_places out told ≡ out
+unfolding told_places
+short_places out told h = choose_yes _ _ (lt-ltb (length out) 8 h)
 
 -- a list that is long enough
 
-pub long-number : (out : List ℕ) (told : Told) → 8 ≤ length out → toldNumber out told ≡ told.number
-unfolding toldNumber
-long-number out told h = choose_no _ _ (le-ltb (length out) 8 h)
+pub long_number : (out : List ℕ) (told : Told) → 8 ≤ length out → told_number out told ≡ told.number
+unfolding told_number
+long_number out told h = choose_no _ _ (le-ltb (length out) 8 h)
 
-pub long-places : (out : List ℕ) (told : Told) → 8 ≤ length out → toldPlaces out told ≡ withFirst told.values out
-unfolding toldPlaces
-long-places out told h = choose_no _ _ (le-ltb (length out) 8 h)
+pub long_places : (out : List ℕ) (told : Told) → 8 ≤ length out → told_places out told ≡ with_first told.values out
+unfolding told_places
+long_places out told h = choose_no _ _ (le-ltb (length out) 8 h)
 
 -- values that are stored one after the other
-pub stored : (out values : List ℕ) → length values ≤ length out → sets out 0 values ≡ withFirst values out
-unfolding withFirst
+pub stored : (out values : List ℕ) → length values ≤ length out → sets out 0 values ≡ with_first values out
+unfolding with_first
 stored out values h = sets-eq values out 0 (omega arith) ∙ ap (λ (n : ℕ). values ++ drop n out) (zero-add (length values))
 
 -- what a function of the C face ends with: a list that is too short, or an answer that is told
 
-pub tells-not : (out : List ℕ) (told : Told) → length out < 8 → (9 ≡ toldNumber out told) × (out ≡ toldPlaces out told)
-tells-not out told h = (sym (short-number out told h), sym (short-places out told h))
+pub tells_not : (out : List ℕ) (told : Told) → length out < 8 → (9 ≡ told_number out told) × (out ≡ told_places out told)
+tells_not out told h = (sym (short_number out told h), sym (short_places out told h))
 
-pub tells : (out places : List ℕ) (said told : Told) → said ≡ told → 8 ≤ length out → places ≡ withFirst said.values out
-    → (said.number ≡ toldNumber out told) × (places ≡ toldPlaces out told)
+pub tells : (out places : List ℕ) (said told : Told) → said ≡ told → 8 ≤ length out → places ≡ with_first said.values out
+    → (said.number ≡ told_number out told) × (places ≡ told_places out told)
 tells out places said told is h e = (
-  ap (λ (t : Told). t.number) is ∙ sym (long-number out told h),
-  e ∙ ap (λ (t : Told). withFirst t.values out) is ∙ sym (long-places out told h),
+  ap (λ (t : Told). t.number) is ∙ sym (long_number out told h),
+  e ∙ ap (λ (t : Told). with_first t.values out) is ∙ sym (long_places out told h),
 )
 
 -- a function of the C face that tells its answer has one outcome: its number, and the places of `out`
-pub one-telling : (out : List ℕ) (told : Told) (r s : ℕ) (a b : List ℕ) → (r ≡ toldNumber out told) × (a ≡ toldPlaces out told)
-    → (s ≡ toldNumber out told) × (b ≡ toldPlaces out told) → (r ≡ s) × (a ≡ b)
-one-telling out told r s a b p q = (p.0 ∙ sym q.0, p.1 ∙ sym q.1)
+pub one_telling : (out : List ℕ) (told : Told) (r s : ℕ) (a b : List ℕ) → (r ≡ told_number out told) × (a ≡ told_places out told)
+    → (s ≡ told_number out told) × (b ≡ told_places out told) → (r ≡ s) × (a ≡ b)
+one_telling out told r s a b p q = (p.0 ∙ sym q.0, p.1 ∙ sym q.1)

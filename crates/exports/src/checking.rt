@@ -1,8 +1,8 @@
 // The full check under its C name.
 ghost use Rattle.std.specs.Prelude.{◌≡◌};
-ghost use Rattle.full.specs.Fault.{verdictOf};
-ghost use Rattle.exports.specs.Told.{toldNumber, toldPlaces};
-ghost use Rattle.exports.specs.Numbers.{verdictTold};
+ghost use Rattle.full.specs.Fault.{verdict_of};
+ghost use Rattle.exports.specs.Told.{told_number, told_places};
+ghost use Rattle.exports.specs.Numbers.{verdict_told};
 
 use crate::tell::{tell, tell_four};
 use full::Verdict;
@@ -10,7 +10,7 @@ use full::Verdict;
 // Checks that a volume is full: 0 and kind, road or left edge, right edge, second; or the refusal's number and its place.
 #[unsafe(no_mangle)]
 pub extern "C" fn bf_check(v: &[u8], out: &mut [u64]) -> u32
-    ensures { (result ≡ toldNumber out.old (verdictTold (verdictOf v.now))) × (out.new ≡ toldPlaces out.old (verdictTold (verdictOf v.now))) }
+    ensures { (result ≡ told_number out.old (verdict_told (verdict_of v.now))) × (out.new ≡ told_places out.old (verdict_told (verdict_of v.now))) }
 {
     if out.len() < 8 {
         return 9;

@@ -2,10 +2,10 @@
 // host/breezeflint.h declares them.
 ghost use Rattle.std.specs.Prelude.{◌≡◌, ◌≤◌, length};
 ghost use Rattle.block.specs.Seal.{sealed};
-ghost use Rattle.volume.specs.Open.{openOf};
-ghost use Rattle.travel.specs.Times.{roadTimeOf, edgeTimeOf};
-ghost use Rattle.exports.specs.Told.{toldNumber, toldPlaces};
-ghost use Rattle.exports.specs.Numbers.{sealingNumber, openingTold, timingTold};
+ghost use Rattle.volume.specs.Open.{open_of};
+ghost use Rattle.travel.specs.Times.{road_time_of, edge_time_of};
+ghost use Rattle.exports.specs.Told.{told_number, told_places};
+ghost use Rattle.exports.specs.Numbers.{sealing_number, opening_told, timing_told};
 
 use crate::tell::{tell, tell_five};
 use block::Sealing;
@@ -19,7 +19,7 @@ pub mod tell;
 // Seals a volume: 0, or the refusal's number.
 #[unsafe(no_mangle)]
 pub extern "C" fn bf_seal(v: &mut [u8]) -> u32
-    ensures { (result ≡ sealingNumber v.old) × (v.new ≡ sealed v.old) }
+    ensures { (result ≡ sealing_number v.old) × (v.new ≡ sealed v.old) }
 {
     let sealing = block::seal(v);
     match sealing {
@@ -31,7 +31,7 @@ pub extern "C" fn bf_seal(v: &mut [u8]) -> u32
 // Opens a volume: 0 and N, R, P, E, Q; or the refusal's number and its place.
 #[unsafe(no_mangle)]
 pub extern "C" fn bf_open(v: &[u8], out: &mut [u64]) -> u32
-    ensures { (result ≡ toldNumber out.old (openingTold (openOf v.now))) × (out.new ≡ toldPlaces out.old (openingTold (openOf v.now))) }
+    ensures { (result ≡ told_number out.old (opening_told (open_of v.now))) × (out.new ≡ told_places out.old (opening_told (open_of v.now))) }
 {
     if out.len() < 8 {
         return 9;
@@ -59,7 +59,7 @@ pub extern "C" fn bf_open(v: &[u8], out: &mut [u64]) -> u32
 // Writes a travel time: 0 and the duration, or the refusal's number and its place.
 fn tell_time(timing: Timing, out: &mut [u64]) -> u32
     requires { 8 ≤ length out.old }
-    ensures { (result ≡ toldNumber out.old (timingTold timing)) × (out.new ≡ toldPlaces out.old (timingTold timing)) }
+    ensures { (result ≡ told_number out.old (timing_told timing)) × (out.new ≡ told_places out.old (timing_told timing)) }
 {
     match timing {
         Timing::Lasts(duration) => {
@@ -76,7 +76,7 @@ fn tell_time(timing: Timing, out: &mut [u64]) -> u32
 // How long a road takes at a departure.
 #[unsafe(no_mangle)]
 pub extern "C" fn bf_road_time(v: &[u8], road: u32, departure: u32, out: &mut [u64]) -> u32
-    ensures { (result ≡ toldNumber out.old (timingTold (roadTimeOf v.now road departure))) × (out.new ≡ toldPlaces out.old (timingTold (roadTimeOf v.now road departure))) }
+    ensures { (result ≡ told_number out.old (timing_told (road_time_of v.now road departure))) × (out.new ≡ told_places out.old (timing_told (road_time_of v.now road departure))) }
 {
     if out.len() < 8 {
         return 9;
@@ -87,7 +87,7 @@ pub extern "C" fn bf_road_time(v: &[u8], road: u32, departure: u32, out: &mut [u
 // How long an edge takes at a departure.
 #[unsafe(no_mangle)]
 pub extern "C" fn bf_edge_time(v: &[u8], edge: u32, departure: u32, out: &mut [u64]) -> u32
-    ensures { (result ≡ toldNumber out.old (timingTold (edgeTimeOf v.now edge departure))) × (out.new ≡ toldPlaces out.old (timingTold (edgeTimeOf v.now edge departure))) }
+    ensures { (result ≡ told_number out.old (timing_told (edge_time_of v.now edge departure))) × (out.new ≡ told_places out.old (timing_told (edge_time_of v.now edge departure))) }
 {
     if out.len() < 8 {
         return 9;

@@ -1,8 +1,8 @@
 // The search under its C name.
 ghost use Rattle.std.specs.Prelude.{◌≡◌, ◌≤◌, length};
 ghost use Rattle.exports.specs.Searched.{HostSearched};
-ghost use Rattle.exports.specs.Told.{toldNumber, toldPlaces};
-ghost use Rattle.exports.specs.Numbers.{answerTold};
+ghost use Rattle.exports.specs.Told.{told_number, told_places};
+ghost use Rattle.exports.specs.Numbers.{answer_told};
 
 use crate::tell::{tell, tell_five, tell_four, tell_two};
 use search::Answer;
@@ -11,7 +11,7 @@ use settle::Upper;
 // Writes a search's answer: 0 and its kind and values, or the refusal's number and its place.
 fn tell_answer(answer: Answer, out: &mut [u64]) -> u32
     requires { 8 ≤ length out.old }
-    ensures { (result ≡ toldNumber out.old (answerTold answer)) × (out.new ≡ toldPlaces out.old (answerTold answer)) }
+    ensures { (result ≡ told_number out.old (answer_told answer)) × (out.new ≡ told_places out.old (answer_told answer)) }
 {
     match answer {
         Answer::Closed(arrival, used, roads) => {

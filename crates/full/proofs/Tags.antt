@@ -7,5 +7,5 @@ use types.Run.{OneOf, miss}
 use denote.Enum.Declared.{tag_of}
 use Rattle.full.specs.contracts.Verdict.{the_type}
 
-pub other-than-full : (a : Verdict) → OneOf (1 ∷ 2 ∷ 3 ∷ 4 ∷ 5 ∷ []) (tag_of the_type a) → a ≢ Full
-other-than-full a h e = miss (1 ∷ 2 ∷ 3 ∷ 4 ∷ 5 ∷ []) 0 tt (rw e at h)
+pub other_than_full : (a : Verdict) → OneOf (1 ∷ 2 ∷ 3 ∷ 4 ∷ 5 ∷ []) (tag_of the_type a) → a ≢ Full
+other_than_full a h e = miss (1 ∷ 2 ∷ 3 ∷ 4 ∷ 5 ∷ []) 0 tt (rw e at h)

@@ -3,46 +3,46 @@
 -- pairs are to be covered, and in which order, is in Fault.
 use Rattle.std.specs.Prelude.{ℕ, Bool, not, eqb, leb}
 use Rattle.block.specs.Choose.{choose, both}
-use Rattle.block.specs.First.{firstNot}
-use Rattle.theory.specs.Network.{Piece, road-of, pair_of, by-piece, edge-arr}
+use Rattle.block.specs.First.{first_not}
+use Rattle.theory.specs.Network.{Piece, road_of, pair_of, by_piece, edge_arr}
 use Rattle.records.specs.Format.{Volume}
 use Rattle.rules.specs.Rules.{empty}
-use Rattle.travel.specs.Network.{networkOf, arrival}
+use Rattle.travel.specs.Network.{network_of, arrival}
 use Rattle.full.specs.declared.cover.Cover.{Cover}
 use Rattle.full.specs.declared.cover.Cover.TheVariants.{Missing, Late, Fine}
 
 -- a road or two edges in turn, by two numbers as a piece has them: the right is empty for a road
 unfoldable pub named : ℕ → ℕ → Piece
-named left right = choose (eqb right empty) (road-of left) (pair_of left right)
+named left right = choose (eqb right empty) (road_of left) (pair_of left right)
 
 module _ (vol : Volume) where
   -- the arrival by the road, or by the two edges in turn, entered at x
-  abbrev pub arrivalBy : Piece → ℕ → ℕ
-  arrivalBy q x = by-piece (networkOf vol) (edge-arr (networkOf vol)) x q
+  abbrev pub arrival_by : Piece → ℕ → ℕ
+  arrival_by q x = by_piece (network_of vol) (edge_arr (network_of vol)) x q
 
   -- entered at x, p arrives no later than q
-  unfoldable pub notAfter : Piece → Piece → ℕ → Bool
-  notAfter p q x = leb (arrivalBy p x) (arrivalBy q x)
+  unfoldable pub not_after : Piece → Piece → ℕ → Bool
+  not_after p q x = leb (arrival_by p x) (arrival_by q x)
 
   -- edge d leads from u to w
   unfoldable pub leads : ℕ → ℕ → ℕ → Bool
-  leads u w d = both (eqb (vol.edge-from d) u) (eqb (vol.edge_to d) w)
+  leads u w d = both (eqb (vol.edge_from d) u) (eqb (vol.edge_to d) w)
 
   -- the edge from u to w, or E
-  unfoldable pub edgeWith : ℕ → ℕ → ℕ
-  edgeWith u w = firstNot (λ d. not (leads u w d)) vol.edges 0
+  unfoldable pub edge_with : ℕ → ℕ → ℕ
+  edge_with u w = first_not (λ d. not (leads u w d)) vol.edges 0
 
   -- edge e, entered at x, is no slower than q
-  unfoldable pub noSlower : ℕ → Piece → ℕ → Bool
-  noSlower e q x = leb (arrival vol e x) (arrivalBy q x)
+  unfoldable pub no_slower : ℕ → Piece → ℕ → Bool
+  no_slower e q x = leb (arrival vol e x) (arrival_by q x)
 
   -- the earliest second of the period at which edge e is late, or the period
-  unfoldable pub firstLate : ℕ → Piece → ℕ
-  firstLate e q = firstNot (noSlower e q) vol.period 0
+  unfoldable pub first_late : ℕ → Piece → ℕ
+  first_late e q = first_not (no_slower e q) vol.period 0
 
   -- how the edges cover q, which leads from u to w
-  unfoldable pub coverOf : ℕ → ℕ → Piece → Cover
-  coverOf u w q =
-      let e = edgeWith u w in
-      let x = firstLate e q in
+  unfoldable pub cover_of : ℕ → ℕ → Piece → Cover
+  cover_of u w q =
+      let e = edge_with u w in
+      let x = first_late e q in
       choose (eqb e vol.edges) Missing (choose (eqb x vol.period) Fine (Late x))

@@ -1,13 +1,13 @@
 -- What each answer of the full check says, without a word on how it is found: document 01, "Full". Covered, missing and late for a
 -- road or a pair; the first fault in the document's order; full. Promises shows that the check's answer is the one that holds.
 use Rattle.std.specs.Prelude.{ℕ, ◌≤◌, ◌<◌, ◌≡◌, ◌≢◌, List}
-use Rattle.theory.specs.Network.{Piece, road-of, pair_of, Covers, DayZero, FullDay}
-use Rattle.records.specs.Format.{Volume, volumeOf}
-use Rattle.volume.specs.Open.{openOf}
+use Rattle.theory.specs.Network.{Piece, road_of, pair_of, Covers, DayZero, FullDay}
+use Rattle.records.specs.Format.{Volume, volume_of}
+use Rattle.volume.specs.Open.{open_of}
 use Rattle.records.specs.declared.tables.Counts.{Counts}
 use Rattle.volume.specs.declared.Opening.TheVariants as opening
-use Rattle.travel.specs.Network.{networkOf, arrival}
-use Rattle.full.specs.Cover.{arrivalBy}
+use Rattle.travel.specs.Network.{network_of, arrival}
+use Rattle.full.specs.Cover.{arrival_by}
 use Rattle.full.specs.declared.cover.Cover.{Cover}
 use Rattle.full.specs.declared.cover.Cover.TheVariants.{Missing, Late, Fine}
 use Rattle.full.specs.declared.Verdict.{Verdict}
@@ -16,40 +16,40 @@ use Rattle.full.specs.declared.Verdict.TheVariants.{Full, RoadMissing, RoadLate,
 module _ (vol : Volume) where
   -- no edge leads from u to w
   abbrev pub NoEdge : ℕ → ℕ → Type 0
-  NoEdge u w = (e : ℕ) → e < vol.edges → vol.edge-from e ≡ u → vol.edge_to e ≢ w
+  NoEdge u w = (e : ℕ) → e < vol.edges → vol.edge_from e ≡ u → vol.edge_to e ≢ w
 
   -- an edge leads from u to w, and x is the earliest second of the period at which it is slower than q
   pub record LateAt (u w : ℕ) (q : Piece) (x : ℕ) : Type 0 where
     pub edge : ℕ
     pub there : edge < vol.edges
-    pub starts : vol.edge-from edge ≡ u
+    pub starts : vol.edge_from edge ≡ u
     pub ends : vol.edge_to edge ≡ w
-    pub in-period : x < vol.period
-    pub late : arrivalBy vol q x < arrival vol edge x
-    pub earliest : (y : ℕ) → y < x → arrival vol edge y ≤ arrivalBy vol q y
+    pub in_period : x < vol.period
+    pub late : arrival_by vol q x < arrival vol edge x
+    pub earliest : (y : ℕ) → y < x → arrival vol edge y ≤ arrival_by vol q y
 
   -- what is said of q, which leads from u to w: its edge is missing, or late first at x, or no slower at every second of the period
   abbrev pub CoverSays : ℕ → ℕ → Piece → Cover → Type 0
   CoverSays u w q Missing = NoEdge u w
   CoverSays u w q (Late x) = LateAt u w q x
-  CoverSays u w q Fine = Covers (networkOf vol) (DayZero (networkOf vol)) u w (arrivalBy vol q)
+  CoverSays u w q Fine = Covers (network_of vol) (DayZero (network_of vol)) u w (arrival_by vol q)
 
   -- of road k
   abbrev pub RoadSays : ℕ → Cover → Type 0
-  RoadSays k c = CoverSays (vol.road-from k) (vol.road-to k) (road-of k) c
+  RoadSays k c = CoverSays (vol.road_from k) (vol.road_to k) (road_of k) c
 
   -- of the edges l and r in turn
   abbrev pub PairSays : ℕ → ℕ → Cover → Type 0
-  PairSays l r c = CoverSays (vol.edge-from l) (vol.edge_to r) (pair_of l r) c
+  PairSays l r c = CoverSays (vol.edge_from l) (vol.edge_to r) (pair_of l r) c
 
   -- edge l leads u to m and edge r m to w, with u not w and m of lower rank than both
   pub record Pair (l r : ℕ) : Type 0 where
     pub left_there : l < vol.edges
     pub right_there : r < vol.edges
-    pub meet : vol.edge_to l ≡ vol.edge-from r
-    pub differ : vol.edge-from l ≢ vol.edge_to r
-    pub below-from : vol.edge_to l < vol.edge-from l
-    pub below-to : vol.edge_to l < vol.edge_to r
+    pub meet : vol.edge_to l ≡ vol.edge_from r
+    pub differ : vol.edge_from l ≢ vol.edge_to r
+    pub below_from : vol.edge_to l < vol.edge_from l
+    pub below_to : vol.edge_to l < vol.edge_to r
 
   -- the roads below k are covered
   abbrev pub RoadsFine : ℕ → Type 0
@@ -75,7 +75,7 @@ module _ (vol : Volume) where
 
   -- what an answer says of a sound volume, which is not refused
   abbrev pub Says : Verdict → Type 0
-  Says Full = FullDay (networkOf vol)
+  Says Full = FullDay (network_of vol)
   Says (RoadMissing k) = RoadFirst k Missing
   Says (RoadLate k x) = RoadFirst k (Late x)
   Says (PairMissing l r) = PairFirst l r Missing
@@ -84,13 +84,13 @@ module _ (vol : Volume) where
 
 -- the volume in v opens: it is sound
 abbrev pub Opens : List ℕ → Type 0
-Opens v = (c : Counts) × (openOf v ≡ opening.Opened c)
+Opens v = (c : Counts) × (open_of v ≡ opening.Opened c)
 
 -- what an answer says of any bytes
 abbrev pub Means : List ℕ → Verdict → Type 0
-Means v Full = Opens v × Says (volumeOf v) Full
-Means v (RoadMissing k) = Opens v × Says (volumeOf v) (RoadMissing k)
-Means v (RoadLate k x) = Opens v × Says (volumeOf v) (RoadLate k x)
-Means v (PairMissing l r) = Opens v × Says (volumeOf v) (PairMissing l r)
-Means v (PairLate l r x) = Opens v × Says (volumeOf v) (PairLate l r x)
-Means v (Refused number place) = openOf v ≡ opening.Refused number place
+Means v Full = Opens v × Says (volume_of v) Full
+Means v (RoadMissing k) = Opens v × Says (volume_of v) (RoadMissing k)
+Means v (RoadLate k x) = Opens v × Says (volume_of v) (RoadLate k x)
+Means v (PairMissing l r) = Opens v × Says (volume_of v) (PairMissing l r)
+Means v (PairLate l r x) = Opens v × Says (volume_of v) (PairLate l r x)
+Means v (Refused number place) = open_of v ≡ opening.Refused number place

@@ -20,16 +20,16 @@ paper (PairLate l r x) = found 4 l r x
 paper (Refused number place) = refusal number place
 
 -- the answer back from its numbers
-abbrev answerBy : Paper → Verdict
-answerBy (found zero k r x) = Full
-answerBy (found (suc zero) k r x) = RoadMissing k
-answerBy (found (suc (suc zero)) k r x) = RoadLate k x
-answerBy (found (suc (suc (suc zero))) l r x) = PairMissing l r
-answerBy (found (suc (suc (suc (suc n)))) l r x) = PairLate l r x
-answerBy (refusal number place) = Refused number place
+abbrev answer_by : Paper → Verdict
+answer_by (found zero k r x) = Full
+answer_by (found (suc zero) k r x) = RoadMissing k
+answer_by (found (suc (suc zero)) k r x) = RoadLate k x
+answer_by (found (suc (suc (suc zero))) l r x) = PairMissing l r
+answer_by (found (suc (suc (suc (suc n)))) l r x) = PairLate l r x
+answer_by (refusal number place) = Refused number place
 
 -- it is the same
-back : (a : Verdict) → answerBy (paper a) ≡ a
+back : (a : Verdict) → answer_by (paper a) ≡ a
 back Full = refl
 back (RoadMissing k) = refl
 back (RoadLate k x) = refl
@@ -38,5 +38,5 @@ back (PairLate l r x) = refl
 back (Refused number place) = refl
 
 -- no two answers have the same numbers
-pub paper-tells : (a b : Verdict) → paper a ≡ paper b → a ≡ b
-paper-tells a b e = sym (back a) ∙ ap answerBy e ∙ back b
+pub paper_tells : (a b : Verdict) → paper a ≡ paper b → a ≡ b
+paper_tells a b e = sym (back a) ∙ ap answer_by e ∙ back b

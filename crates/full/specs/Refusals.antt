@@ -2,7 +2,7 @@
 use Rattle.std.specs.Prelude.{ℕ, ◌≤◌, Bool, true, false, List}
 use Rattle.std.proofs.Common.{arith}
 use Rattle.block.specs.Choose.{choose}
-use Rattle.volume.specs.Open.{recordsOf, openOf}
+use Rattle.volume.specs.Open.{records_of, open_of}
 use Rattle.volume.specs.declared.Opening.{Opening}
 use Rattle.volume.specs.declared.Opening.TheVariants as opening
 
@@ -18,9 +18,9 @@ either true a b h k = h
 either false a b h k = k
 
 -- what opening answers
-pub opening-numbered : (v : List ℕ) → Numbered (openOf v)
-unfolding openOf recordsOf
-opening-numbered v =
+pub opening_numbered : (v : List ℕ) → Numbered (open_of v)
+unfolding open_of records_of
+opening_numbered v =
     either _ _ _
     (either _ _ _
     (either _ _ _

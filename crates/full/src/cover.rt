@@ -1,13 +1,13 @@
 // How the edges cover one road, or two edges in turn: document 01, "Full". Both are named by two numbers as a piece names them, so
 // that one search serves both: a road is `left` with the right EMPTY, two edges in turn are `left` and `right`.
 ghost use Rattle.std.specs.Prelude.{◌≡◌, ◌+◌, ◌≤◌, ◌<◌};
-ghost use Rattle.records.specs.Format.{volumeOf, Laid};
+ghost use Rattle.records.specs.Format.{volume_of, Laid};
 ghost use Rattle.volume.specs.Sound.{Sound};
 ghost use Rattle.travel.specs.Digest.{LaidOut, Digest};
-ghost use Rattle.full.specs.Cover.{named, arrivalBy, notAfter, edgeWith, firstLate, coverOf};
+ghost use Rattle.full.specs.Cover.{named, arrival_by, not_after, edge_with, first_late, cover_of};
 ghost use Rattle.full.specs.Turns.{Names, Ready};
-ghost use Rattle.full.specs.Parts.{pieceEnd};
-ghost use Rattle.full.specs.Runs.{firstFrom};
+ghost use Rattle.full.specs.Parts.{piece_end};
+ghost use Rattle.full.specs.Runs.{first_from};
 
 use records::tables::{
     EMPTY, PERIOD, Tables, edge_first, edge_pieces, edge_to, piece_left, piece_right, piece_start,
@@ -34,8 +34,8 @@ fn find_edge(
     w: usize,
 ) -> usize
     requires ready { Ready v.now t first.now next.now edges }
-    requires u_bound { u < (volumeOf v.now).junctions }
-    ensures { result ≡ edgeWith (volumeOf v.now) u w }
+    requires u_bound { u < (volume_of v.now).junctions }
+    ensures { result ≡ edge_with (volume_of v.now) u w }
 {
     let mut e = first[u] as usize;
     while e < edges {
@@ -50,11 +50,11 @@ fn find_edge(
 // How long the road `left`, or the edges `left` and `right` in turn, take for who enters at x.
 fn in_turn(v: &[u8], digest: &[u32], left: usize, right: usize, x: u64) -> u64
     requires laid_out { LaidOut v.now }
-    requires sound { Sound (volumeOf v.now) }
-    requires digest { Digest (volumeOf v.now) digest.now }
-    requires names { Names (volumeOf v.now) left right }
-    requires x_bound { x < (volumeOf v.now).period }
-    ensures { x + result ≡ arrivalBy (volumeOf v.now) (named left right) x }
+    requires sound { Sound (volume_of v.now) }
+    requires digest { Digest (volume_of v.now) digest.now }
+    requires names { Names (volume_of v.now) left right }
+    requires x_bound { x < (volume_of v.now).period }
+    ensures { x + result ≡ arrival_by (volume_of v.now) (named left right) x }
 {
     if right == EMPTY {
         return road_lasts(v, digest, left, x);
@@ -77,12 +77,12 @@ fn first_slower(
     end: u64,
 ) -> u64
     requires laid_out { LaidOut v.now }
-    requires sound { Sound (volumeOf v.now) }
-    requires digest { Digest (volumeOf v.now) digest.now }
-    requires names { Names (volumeOf v.now) a b }
-    requires names_2 { Names (volumeOf v.now) left right }
-    requires from_le_end { (from ≤ end) × (end ≤ (volumeOf v.now).period) }
-    ensures { result ≡ firstFrom (notAfter (volumeOf v.now) (named a b) (named left right)) from end }
+    requires sound { Sound (volume_of v.now) }
+    requires digest { Digest (volume_of v.now) digest.now }
+    requires names { Names (volume_of v.now) a b }
+    requires names_2 { Names (volume_of v.now) left right }
+    requires from_le_end { (from ≤ end) × (end ≤ (volume_of v.now).period) }
+    ensures { result ≡ first_from (not_after (volume_of v.now) (named a b) (named left right)) from end }
 {
     if a == left {
         if b == right {
@@ -104,8 +104,8 @@ fn first_slower(
 // The second at which piece i, of the n pieces from piece `first` on, ends: where the next starts, or with the period.
 fn piece_end(v: &[u8], t: Tables, first: usize, n: usize, i: usize) -> u64
     requires laid { Laid v.now t }
-    requires i_lt_n { (i < n) × (first + n ≤ (volumeOf v.now).pieces) }
-    ensures { result ≡ pieceEnd (volumeOf v.now) first n i }
+    requires i_lt_n { (i < n) × (first + n ≤ (volume_of v.now).pieces) }
+    ensures { result ≡ piece_end (volume_of v.now) first n i }
 {
     if i + 1 < n {
         return piece_start(v, t, first + i + 1);
@@ -116,11 +116,11 @@ fn piece_end(v: &[u8], t: Tables, first: usize, n: usize, i: usize) -> u64
 // The first second of the period at which edge e arrives later than `left` and `right`, or the period. It goes from piece to piece.
 fn first_late(v: &[u8], t: Tables, digest: &[u32], e: usize, left: usize, right: usize) -> u64
     requires laid { Laid v.now t }
-    requires sound { Sound (volumeOf v.now) }
-    requires digest { Digest (volumeOf v.now) digest.now }
-    requires e_bound { e < (volumeOf v.now).edges }
-    requires names { Names (volumeOf v.now) left right }
-    ensures { result ≡ firstLate (volumeOf v.now) e (named left right) }
+    requires sound { Sound (volume_of v.now) }
+    requires digest { Digest (volume_of v.now) digest.now }
+    requires e_bound { e < (volume_of v.now).edges }
+    requires names { Names (volume_of v.now) left right }
+    ensures { result ≡ first_late (volume_of v.now) e (named left right) }
 {
     let first = edge_first(v, t, e);
     let n = edge_pieces(v, t, e);
@@ -154,10 +154,10 @@ pub fn cover_of(
     right: usize,
 ) -> Cover
     requires ready { Ready v.now t first.now next.now edges }
-    requires digest { Digest (volumeOf v.now) digest.now }
-    requires u_bound { u < (volumeOf v.now).junctions }
-    requires names { Names (volumeOf v.now) left right }
-    ensures { result ≡ coverOf (volumeOf v.now) u w (named left right) }
+    requires digest { Digest (volume_of v.now) digest.now }
+    requires u_bound { u < (volume_of v.now).junctions }
+    requires names { Names (volume_of v.now) left right }
+    ensures { result ≡ cover_of (volume_of v.now) u w (named left right) }
 {
     let e = find_edge(v, t, first, next, edges, u, w);
     if e == edges {

@@ -1,10 +1,10 @@
 // The full check: is every road, and every two edges in turn through a lower middle, covered by an edge no slower at every second?
 // Answers to document 01, "Full".
 ghost use Rattle.std.specs.Prelude.{◌≡◌, ◌<◌};
-ghost use Rattle.records.specs.Format.{volumeOf, Laid, Counted, Few};
+ghost use Rattle.records.specs.Format.{volume_of, Laid, Counted, Few};
 ghost use Rattle.volume.specs.Sound.{Sound};
 ghost use Rattle.travel.specs.Digest.{Digest};
-ghost use Rattle.full.specs.Fault.{ofRoad, ofPair, roadFault, pairFault, rightsFault, leftsFault, roadsFault, faultOf, verdictOf};
+ghost use Rattle.full.specs.Fault.{of_road, of_pair, road_fault, pair_fault, rights_fault, lefts_fault, roads_fault, fault_of, verdict_of};
 ghost use Rattle.full.specs.Turns.{Ready};
 
 use crate::cover::{Cover, cover_of};
@@ -29,7 +29,7 @@ pub enum Verdict {
 
 // The fault of road k, by how the edges cover it.
 fn of_road(k: usize, c: Cover) -> Verdict
-    ensures { result ≡ ofRoad k c }
+    ensures { result ≡ of_road k c }
 {
     match c {
         Cover::Missing => Verdict::RoadMissing(k),
@@ -40,7 +40,7 @@ fn of_road(k: usize, c: Cover) -> Verdict
 
 // The fault of the edges l and r in turn, by how the edges cover them.
 fn of_pair(l: usize, r: usize, c: Cover) -> Verdict
-    ensures { result ≡ ofPair l r c }
+    ensures { result ≡ of_pair l r c }
 {
     match c {
         Cover::Missing => Verdict::PairMissing(l, r),
@@ -60,9 +60,9 @@ fn road_fault(
     k: usize,
 ) -> Verdict
     requires ready { Ready v.now t first.now next.now edges }
-    requires digest { Digest (volumeOf v.now) digest.now }
-    requires k_bound { k < (volumeOf v.now).roads }
-    ensures { result ≡ roadFault (volumeOf v.now) k }
+    requires digest { Digest (volume_of v.now) digest.now }
+    requires k_bound { k < (volume_of v.now).roads }
+    ensures { result ≡ road_fault (volume_of v.now) k }
 {
     let road = road_at(v, t, k);
     let c = cover_of(
@@ -85,11 +85,11 @@ fn pair_fault(
     r: usize,
 ) -> Verdict
     requires ready { Ready v.now t first.now next.now edges }
-    requires digest { Digest (volumeOf v.now) digest.now }
+    requires digest { Digest (volume_of v.now) digest.now }
     requires l_lt_edges { (l < edges) × (r < edges) }
-    requires u_value { (u ≡ (volumeOf v.now).edge-from l) × (m ≡ (volumeOf v.now).edge_to l) }
-    requires m_value { (m ≡ (volumeOf v.now).edge-from r) × (m < u) }
-    ensures { result ≡ pairFault (volumeOf v.now) l r }
+    requires u_value { (u ≡ (volume_of v.now).edge_from l) × (m ≡ (volume_of v.now).edge_to l) }
+    requires m_value { (m ≡ (volume_of v.now).edge_from r) × (m < u) }
+    ensures { result ≡ pair_fault (volume_of v.now) l r }
 {
     let w = edge_to(v, t, r);
     if w <= m {
@@ -113,9 +113,9 @@ fn rights_fault(
     l: usize,
 ) -> Verdict
     requires ready { Ready v.now t first.now next.now edges }
-    requires digest { Digest (volumeOf v.now) digest.now }
+    requires digest { Digest (volume_of v.now) digest.now }
     requires l_lt_edges { l < edges }
-    ensures { result ≡ rightsFault (volumeOf v.now) l }
+    ensures { result ≡ rights_fault (volume_of v.now) l }
 {
     let u = edge_from(v, t, l);
     let m = edge_to(v, t, l);
@@ -143,8 +143,8 @@ fn lefts_fault(
     edges: usize,
 ) -> Verdict
     requires ready { Ready v.now t first.now next.now edges }
-    requires digest { Digest (volumeOf v.now) digest.now }
-    ensures { result ≡ leftsFault (volumeOf v.now) }
+    requires digest { Digest (volume_of v.now) digest.now }
+    ensures { result ≡ lefts_fault (volume_of v.now) }
 {
     let mut l: usize = 0;
     while l < edges {
@@ -168,9 +168,9 @@ fn roads_fault(
     roads: usize,
 ) -> Verdict
     requires ready { Ready v.now t first.now next.now edges }
-    requires digest { Digest (volumeOf v.now) digest.now }
-    requires roads_value { roads ≡ (volumeOf v.now).roads }
-    ensures { result ≡ roadsFault (volumeOf v.now) }
+    requires digest { Digest (volume_of v.now) digest.now }
+    requires roads_value { roads ≡ (volume_of v.now).roads }
+    ensures { result ≡ roads_fault (volume_of v.now) }
 {
     let mut k: usize = 0;
     while k < roads {
@@ -186,10 +186,10 @@ fn roads_fault(
 // The first fault of an opened volume: roads, then pairs, by an index of the edges that is made once.
 fn fault_of(v: &[u8], t: Tables, c: Counts) -> Verdict
     requires laid { Laid v.now t }
-    requires sound { Sound (volumeOf v.now) }
-    requires counted { Counted (volumeOf v.now) c }
+    requires sound { Sound (volume_of v.now) }
+    requires counted { Counted (volume_of v.now) c }
     requires few { Few c }
-    ensures { result ≡ faultOf (volumeOf v.now) }
+    ensures { result ≡ fault_of (volume_of v.now) }
 {
     let mut first = [0u16; 1024];
     let mut next = [0u16; 16384];
@@ -205,7 +205,7 @@ fn fault_of(v: &[u8], t: Tables, c: Counts) -> Verdict
 
 // Is the volume full? If not, the first fault; if it does not open, the refusal. The answer is the one over every second.
 pub fn check(v: &[u8]) -> Verdict
-    ensures { result ≡ verdictOf v.now }
+    ensures { result ≡ verdict_of v.now }
 {
     let opening = open(v);
     match opening {

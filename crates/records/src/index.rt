@@ -1,7 +1,7 @@
 // The edges of each junction, in rising order, made in one pass for whoever would look through all
 // edges otherwise: opening, the full check and the search.
 ghost use Rattle.std.specs.Prelude.{◌≡◌, ◌≤◌, length};
-ghost use Rattle.records.specs.Format.{volumeOf, Counted, Few, Laid};
+ghost use Rattle.records.specs.Format.{volume_of, Counted, Few, Laid};
 ghost use Rattle.records.specs.Index.{filled, Indexed};
 
 use crate::tables::{Counts, Tables, edge_from};
@@ -21,10 +21,10 @@ fn fill(first: &mut [u16], n: usize, x: u16)
 // For each junction its first edge, and for each edge the next one of the same start; E for none.
 pub fn index_edges(v: &[u8], t: Tables, c: Counts, first: &mut [u16], next: &mut [u16])
     requires laid { Laid v.now t }
-    requires counted { Counted (volumeOf v.now) c }
+    requires counted { Counted (volume_of v.now) c }
     requires few { Few c }
     requires junctions_in_bounds { (c.junctions ≤ length first.old) × (c.edges ≤ length next.old) }
-    ensures { Indexed (volumeOf v.now) first.old next.old first.new next.new 0 }
+    ensures { Indexed (volume_of v.now) first.old next.old first.new next.new 0 }
 {
     let n = c.junctions;
     let mut e = c.edges;

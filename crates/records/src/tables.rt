@@ -1,7 +1,7 @@
 // The tables of a volume, with the readers of their records: a road and a point whole, an edge and a piece by field. How many words a
 // record has and where each table begins is said here and in specs/Format.antt, and nowhere else.
 ghost use Rattle.std.specs.Prelude.{◌≡◌, ◌+◌, ◌*◌, ◌^◌, ◌<◌};
-ghost use Rattle.records.specs.Format.{volumeOf, Laid, Few, IsRoad, IsPoint, tables_of, words_in};
+ghost use Rattle.records.specs.Format.{volume_of, Laid, Few, IsRoad, IsPoint, tables_of, words_in};
 
 use block::{content, content_pair};
 
@@ -92,8 +92,8 @@ fn record_at(base: usize, words: usize, i: usize) -> usize
 // Road k. Its first word stands at an even place, so its four words are two pairs.
 pub fn road_at(v: &[u8], t: Tables, k: usize) -> Road
     requires laid { Laid v.now t }
-    requires k_bound { k < (volumeOf v.now).roads }
-    ensures { IsRoad (volumeOf v.now) k result }
+    requires k_bound { k < (volume_of v.now).roads }
+    ensures { IsRoad (volume_of v.now) k result }
 {
     let w = record_at(HEAD_WORDS, ROAD_WORDS, k);
     let ends = content_pair(v, w);
@@ -109,8 +109,8 @@ pub fn road_at(v: &[u8], t: Tables, k: usize) -> Road
 // Point i of all.
 pub fn point_at(v: &[u8], t: Tables, i: usize) -> Point
     requires laid { Laid v.now t }
-    requires i_bound { i < (volumeOf v.now).points }
-    ensures { IsPoint (volumeOf v.now) i result }
+    requires i_bound { i < (volume_of v.now).points }
+    ensures { IsPoint (volume_of v.now) i result }
 {
     let base = t.points;
     let words = content_pair(v, record_at(base, POINT_WORDS, i));
@@ -123,8 +123,8 @@ pub fn point_at(v: &[u8], t: Tables, i: usize) -> Point
 // The junction where edge e begins.
 pub fn edge_from(v: &[u8], t: Tables, e: usize) -> usize
     requires laid { Laid v.now t }
-    requires e_bound { e < (volumeOf v.now).edges }
-    ensures { (result ≡ (volumeOf v.now).edge-from e) × (result < 2 ^ 32) }
+    requires e_bound { e < (volume_of v.now).edges }
+    ensures { (result ≡ (volume_of v.now).edge_from e) × (result < 2 ^ 32) }
 {
     let base = t.edges;
     content(v, record_at(base, EDGE_WORDS, e)) as usize
@@ -133,8 +133,8 @@ pub fn edge_from(v: &[u8], t: Tables, e: usize) -> usize
 // The junction where edge e ends.
 pub fn edge_to(v: &[u8], t: Tables, e: usize) -> usize
     requires laid { Laid v.now t }
-    requires e_bound { e < (volumeOf v.now).edges }
-    ensures { (result ≡ (volumeOf v.now).edge_to e) × (result < 2 ^ 32) }
+    requires e_bound { e < (volume_of v.now).edges }
+    ensures { (result ≡ (volume_of v.now).edge_to e) × (result < 2 ^ 32) }
 {
     let base = t.edges;
     content(v, record_at(base, EDGE_WORDS, e) + 1) as usize
@@ -143,8 +143,8 @@ pub fn edge_to(v: &[u8], t: Tables, e: usize) -> usize
 // The first piece of edge e.
 pub fn edge_first(v: &[u8], t: Tables, e: usize) -> usize
     requires laid { Laid v.now t }
-    requires e_bound { e < (volumeOf v.now).edges }
-    ensures { (result ≡ (volumeOf v.now).edge-first e) × (result < 2 ^ 32) }
+    requires e_bound { e < (volume_of v.now).edges }
+    ensures { (result ≡ (volume_of v.now).edge_first e) × (result < 2 ^ 32) }
 {
     let base = t.edges;
     content(v, record_at(base, EDGE_WORDS, e) + 2) as usize
@@ -153,8 +153,8 @@ pub fn edge_first(v: &[u8], t: Tables, e: usize) -> usize
 // How many pieces edge e has.
 pub fn edge_pieces(v: &[u8], t: Tables, e: usize) -> usize
     requires laid { Laid v.now t }
-    requires e_bound { e < (volumeOf v.now).edges }
-    ensures { (result ≡ (volumeOf v.now).edge-pieces e) × (result < 2 ^ 32) }
+    requires e_bound { e < (volume_of v.now).edges }
+    ensures { (result ≡ (volume_of v.now).edge_pieces e) × (result < 2 ^ 32) }
 {
     let base = t.edges;
     content(v, record_at(base, EDGE_WORDS, e) + 3) as usize
@@ -163,8 +163,8 @@ pub fn edge_pieces(v: &[u8], t: Tables, e: usize) -> usize
 // The span of edge e.
 pub fn edge_span(v: &[u8], t: Tables, e: usize) -> usize
     requires laid { Laid v.now t }
-    requires e_bound { e < (volumeOf v.now).edges }
-    ensures { (result ≡ (volumeOf v.now).edge-span e) × (result < 2 ^ 32) }
+    requires e_bound { e < (volume_of v.now).edges }
+    ensures { (result ≡ (volume_of v.now).edge_span e) × (result < 2 ^ 32) }
 {
     let base = t.edges;
     content(v, record_at(base, EDGE_WORDS, e) + 4) as usize
@@ -173,8 +173,8 @@ pub fn edge_span(v: &[u8], t: Tables, e: usize) -> usize
 // The second at which piece p starts.
 pub fn piece_start(v: &[u8], t: Tables, p: usize) -> u64
     requires laid { Laid v.now t }
-    requires p_bound { p < (volumeOf v.now).pieces }
-    ensures { (result ≡ (volumeOf v.now).piece-start p) × (result < 2 ^ 32) }
+    requires p_bound { p < (volume_of v.now).pieces }
+    ensures { (result ≡ (volume_of v.now).piece_start p) × (result < 2 ^ 32) }
 {
     let base = t.pieces;
     content(v, record_at(base, PIECE_WORDS, p)) as u64
@@ -183,8 +183,8 @@ pub fn piece_start(v: &[u8], t: Tables, p: usize) -> u64
 // The left of piece p: an edge, or a road where the middle is empty.
 pub fn piece_left(v: &[u8], t: Tables, p: usize) -> usize
     requires laid { Laid v.now t }
-    requires p_bound { p < (volumeOf v.now).pieces }
-    ensures { (result ≡ (volumeOf v.now).piece-left p) × (result < 2 ^ 32) }
+    requires p_bound { p < (volume_of v.now).pieces }
+    ensures { (result ≡ (volume_of v.now).piece_left p) × (result < 2 ^ 32) }
 {
     let base = t.pieces;
     content(v, record_at(base, PIECE_WORDS, p) + LEFT) as usize
@@ -193,8 +193,8 @@ pub fn piece_left(v: &[u8], t: Tables, p: usize) -> usize
 // The right of piece p: an edge, or EMPTY.
 pub fn piece_right(v: &[u8], t: Tables, p: usize) -> usize
     requires laid { Laid v.now t }
-    requires p_bound { p < (volumeOf v.now).pieces }
-    ensures { (result ≡ (volumeOf v.now).piece-right p) × (result < 2 ^ 32) }
+    requires p_bound { p < (volume_of v.now).pieces }
+    ensures { (result ≡ (volume_of v.now).piece_right p) × (result < 2 ^ 32) }
 {
     let base = t.pieces;
     content(v, record_at(base, PIECE_WORDS, p) + RIGHT) as usize

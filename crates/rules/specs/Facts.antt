@@ -3,7 +3,7 @@ use Rattle.std.specs.Prelude.{ℕ, ◌+◌, ◌≤◌, ◌<◌, ◌≡◌, ◌�
 use Rattle.std.proofs.Common.{ap, add-one, eqb-true, leb-true, ltb-true}
 use Rattle.std.proofs.lemmas.Bool.{eqb-false, not-true}
 use Rattle.block.specs.Choose.{both, both_left, both_right}
-use Rattle.rules.specs.Rules.{endsFit, placed, begins}
+use Rattle.rules.specs.Rules.{ends_fit, placed, begins}
 
 -- ends that fit
 pub record Ends (junctions from to : ℕ) : Type 0 where
@@ -11,9 +11,9 @@ pub record Ends (junctions from to : ℕ) : Type 0 where
   pub from_in : from < junctions
   pub to_in : to < junctions
 
-pub ends-fact : (junctions from to : ℕ) → endsFit junctions from to ≡ true → Ends junctions from to
-unfolding endsFit
-ends-fact junctions from to e =
+pub ends_fact : (junctions from to : ℕ) → ends_fit junctions from to ≡ true → Ends junctions from to
+unfolding ends_fit
+ends_fact junctions from to e =
     let r = both_right (not (eqb from to)) (both (ltb from junctions) (ltb to junctions)) e in
     record {
       differ = eqb-false from to (not-true (eqb from to) (both_left (not (eqb from to)) (both (ltb from junctions) (ltb to junctions)) e));
@@ -23,30 +23,30 @@ ends-fact junctions from to e =
 
 -- ends and places are tested against a count that is the volume's
 
-pub ends-counted : (m n from to : ℕ) {b : Bool} → m ≡ n → endsFit m from to ≡ b → endsFit n from to ≡ b
-ends-counted m n from to e q = rw e at q
+pub ends_counted : (m n from to : ℕ) {b : Bool} → m ≡ n → ends_fit m from to ≡ b → ends_fit n from to ≡ b
+ends_counted m n from to e q = rw e at q
 
-pub placed-counted : (m n begin first number : ℕ) {b : Bool} → m ≡ n → placed begin m first number ≡ b → placed begin n first number ≡ b
-placed-counted m n begin first number e q = rw e at q
+pub placed_counted : (m n begin first number : ℕ) {b : Bool} → m ≡ n → placed begin m first number ≡ b → placed begin n first number ≡ b
+placed_counted m n begin first number e q = rw e at q
 
 -- parts that are placed
 pub record Placed (begin total first number : ℕ) : Type 0 where
   pub some : 1 ≤ number
-  pub begins-at : first ≡ begin
+  pub begins_at : first ≡ begin
   pub inside : first + number ≤ total
 
-pub placed-fact : (begin total first number : ℕ) → placed begin total first number ≡ true → Placed begin total first number
+pub placed_fact : (begin total first number : ℕ) → placed begin total first number ≡ true → Placed begin total first number
 unfolding placed
-placed-fact begin total first number e =
+placed_fact begin total first number e =
     let rest = both (eqb first begin) (leb (first + number) total) in
     let r = both_right (leb 1 number) rest e in
     record {
       some = leb-true 1 number (both_left (leb 1 number) rest e);
-      begins-at = eqb-true first begin (both_left (eqb first begin) (leb (first + number) total) r);
+      begins_at = eqb-true first begin (both_left (eqb first begin) (leb (first + number) total) r);
       inside = leb-true (first + number) total (both_right (eqb first begin) (leb (first + number) total) r);
     }
 
 -- where the parts of the next record begin
-pub begins-next : (first number : ℕ → ℕ) (k : ℕ) → begins first number (k + 1) ≡ first k + number k
+pub begins_next : (first number : ℕ → ℕ) (k : ℕ) → begins first number (k + 1) ≡ first k + number k
 unfolding begins
-begins-next first number k = ap (begins first number) (add-one k)
+begins_next first number k = ap (begins first number) (add-one k)

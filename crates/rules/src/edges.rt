@@ -1,8 +1,8 @@
 // The edge rules.
 ghost use Rattle.std.specs.Prelude.{◌≡◌, ◌+◌, ◌≤◌, ◌<◌, max};
-ghost use Rattle.records.specs.Format.{volumeOf, Counted, Laid, day};
-ghost use Rattle.rules.specs.Rules.{begins, roadJoins, meet, pairJoins, startFits, edgeRule};
-ghost use Rattle.rules.specs.EdgeSteps.{pieceFit, piecesFit, Fresh};
+ghost use Rattle.records.specs.Format.{volume_of, Counted, Laid, day};
+ghost use Rattle.rules.specs.Rules.{begins, road_joins, meet, pair_joins, start_fits, edge_rule};
+ghost use Rattle.rules.specs.EdgeSteps.{piece_fit, pieces_fit, Fresh};
 ghost use Rattle.rules.specs.Kept.{Kept};
 
 use crate::kept::{END, SPAN, START, kept_part};
@@ -24,8 +24,8 @@ pub enum Fit {
 // Is k a road from `from` to `to`?
 fn road_joins(v: &[u8], t: Tables, roads: usize, k: usize, from: usize, to: usize) -> bool
     requires laid { Laid v.now t }
-    requires roads_value { roads ≡ (volumeOf v.now).roads }
-    ensures { result ≡ roadJoins (volumeOf v.now) k from to }
+    requires roads_value { roads ≡ (volume_of v.now).roads }
+    ensures { result ≡ road_joins (volume_of v.now) k from to }
 {
     if roads <= k {
         return false;
@@ -56,8 +56,8 @@ fn do_meet(l0: usize, l1: usize, r0: usize, r1: usize, from: usize, to: usize) -
 // Are l and r edges below e that lead in turn from `from` to `to` and meet below both? Their four ends are read before any is
 // compared, so that no read waits for a comparison.
 fn pair_joins(v: &[u8], kept: &[u16], e: usize, l: usize, r: usize, from: usize, to: usize) -> bool
-    requires { Kept (volumeOf v.now) e kept.now }
-    ensures { result ≡ pairJoins (volumeOf v.now) e l r from to }
+    requires { Kept (volume_of v.now) e kept.now }
+    ensures { result ≡ pair_joins (volume_of v.now) e l r from to }
 {
     if e <= l {
         return false;
@@ -84,10 +84,10 @@ fn piece_fit(
     to: usize,
 ) -> Fit
     requires laid { Laid v.now t }
-    requires kept { Kept (volumeOf v.now) e kept.now }
-    requires roads_value { (roads ≡ (volumeOf v.now).roads) × (p < (volumeOf v.now).pieces) }
-    requires from_value { (from ≡ (volumeOf v.now).edge-from e) × (to ≡ (volumeOf v.now).edge_to e) }
-    ensures { result ≡ pieceFit (volumeOf v.now) e p }
+    requires kept { Kept (volume_of v.now) e kept.now }
+    requires roads_value { (roads ≡ (volume_of v.now).roads) × (p < (volume_of v.now).pieces) }
+    requires from_value { (from ≡ (volume_of v.now).edge_from e) × (to ≡ (volume_of v.now).edge_to e) }
+    ensures { result ≡ piece_fit (volume_of v.now) e p }
 {
     let left = piece_left(v, t, p);
     let right = piece_right(v, t, p);
@@ -105,7 +105,7 @@ fn piece_fit(
 
 // Does piece i start when it must, where the piece before it starts at `before`?
 fn start_fits(i: usize, before: u64, start: u64) -> bool
-    ensures { result ≡ startFits day i before start }
+    ensures { result ≡ start_fits day i before start }
 {
     if i == 0 {
         return start == 0;
@@ -136,10 +136,10 @@ fn pieces_fit(
     n: usize,
 ) -> Fit
     requires laid { Laid v.now t }
-    requires kept { Kept (volumeOf v.now) e kept.now }
-    requires roads_value { (roads ≡ (volumeOf v.now).roads) × (e < (volumeOf v.now).edges) × (first + n ≤ (volumeOf v.now).pieces) }
-    requires first_value { (first ≡ (volumeOf v.now).edge-first e) × (n ≡ (volumeOf v.now).edge-pieces e) }
-    ensures { result ≡ piecesFit (volumeOf v.now) e }
+    requires kept { Kept (volume_of v.now) e kept.now }
+    requires roads_value { (roads ≡ (volume_of v.now).roads) × (e < (volume_of v.now).edges) × (first + n ≤ (volume_of v.now).pieces) }
+    requires first_value { (first ≡ (volume_of v.now).edge_first e) × (n ≡ (volume_of v.now).edge_pieces e) }
+    ensures { result ≡ pieces_fit (volume_of v.now) e }
 {
     let from = edge_from(v, t, e);
     let to = edge_to(v, t, e);
@@ -164,12 +164,12 @@ fn pieces_fit(
 // Does edge e obey, where no earlier edge has its ends? Its pieces are to begin at `begin`.
 pub fn edge_fits(v: &[u8], t: Tables, kept: &[u16], c: Counts, e: usize, begin: usize) -> bool
     requires laid { Laid v.now t }
-    requires kept { Kept (volumeOf v.now) e kept.now }
-    requires counted { Counted (volumeOf v.now) c }
-    requires e_bound { e < (volumeOf v.now).edges }
-    requires fresh { Fresh (volumeOf v.now) e }
-    requires begin_value { begin ≡ begins (volumeOf v.now).edge-first (volumeOf v.now).edge-pieces e }
-    ensures { result ≡ edgeRule (volumeOf v.now) e }
+    requires kept { Kept (volume_of v.now) e kept.now }
+    requires counted { Counted (volume_of v.now) c }
+    requires e_bound { e < (volume_of v.now).edges }
+    requires fresh { Fresh (volume_of v.now) e }
+    requires begin_value { begin ≡ begins (volume_of v.now).edge_first (volume_of v.now).edge_pieces e }
+    ensures { result ≡ edge_rule (volume_of v.now) e }
 {
     let from = edge_from(v, t, e);
     let to = edge_to(v, t, e);

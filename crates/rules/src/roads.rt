@@ -1,8 +1,8 @@
 // The road rules.
 ghost use Rattle.std.specs.Prelude.{◌≡◌, ◌+◌, ◌^◌, ◌≤◌, ◌<◌};
 ghost use Rattle.block.specs.First.{all_below};
-ghost use Rattle.records.specs.Format.{volumeOf, Counted, Laid, day};
-ghost use Rattle.rules.specs.Rules.{endsFit, placed, begins, pointFits, pointRule, roadRule};
+ghost use Rattle.records.specs.Format.{volume_of, Counted, Laid, day};
+ghost use Rattle.rules.specs.Rules.{ends_fit, placed, begins, point_fits, point_rule, road_rule};
 
 use records::tables::{Counts, PERIOD, Tables, point_at, road_at};
 
@@ -10,7 +10,7 @@ const LONGEST: u64 = 86400;
 
 // Do two ends differ and lie below n?
 pub fn ends_fit(n: usize, from: usize, to: usize) -> bool
-    ensures { result ≡ endsFit n from to }
+    ensures { result ≡ ends_fit n from to }
 {
     if from != to {
         if from < n {
@@ -36,7 +36,7 @@ pub fn is_placed(begin: usize, total: usize, first: usize, number: usize) -> boo
 // Does the point (t0, f0) fit before the point (t1, f1)?
 fn point_fits(t0: u64, f0: u64, t1: u64, f1: u64) -> bool
     requires { (t1 < 2 ^ 33) × (f1 < 2 ^ 32) }
-    ensures { result ≡ pointFits day t0 f0 t1 f1 }
+    ensures { result ≡ point_fits day t0 f0 t1 f1 }
 {
     if t0 < PERIOD {
         if 1 <= f0 {
@@ -53,8 +53,8 @@ fn point_fits(t0: u64, f0: u64, t1: u64, f1: u64) -> bool
 // Do the n points from `first` on obey? Each fits before the next one, and the last before the first of the next period.
 fn points_fit(v: &[u8], t: Tables, first: usize, n: usize) -> bool
     requires laid { Laid v.now t }
-    requires le_n { (1 ≤ n) × (first + n ≤ (volumeOf v.now).points) × (first < 2 ^ 32) × (n < 2 ^ 32) }
-    ensures { result ≡ all_below n (pointRule (volumeOf v.now) first n) }
+    requires le_n { (1 ≤ n) × (first + n ≤ (volume_of v.now).points) × (first < 2 ^ 32) × (n < 2 ^ 32) }
+    ensures { result ≡ all_below n (point_rule (volume_of v.now) first n) }
 {
     let mut a = point_at(v, t, first);
     let mut i: usize = 0;
@@ -73,10 +73,10 @@ fn points_fit(v: &[u8], t: Tables, first: usize, n: usize) -> bool
 // Does road k obey? Its points are to begin at `begin`.
 pub fn road_fits(v: &[u8], t: Tables, c: Counts, k: usize, begin: usize) -> bool
     requires laid { Laid v.now t }
-    requires counted { Counted (volumeOf v.now) c }
-    requires k_bound { k < (volumeOf v.now).roads }
-    requires begin_value { begin ≡ begins (volumeOf v.now).road-first (volumeOf v.now).road-points k }
-    ensures { result ≡ roadRule (volumeOf v.now) k }
+    requires counted { Counted (volume_of v.now) c }
+    requires k_bound { k < (volume_of v.now).roads }
+    requires begin_value { begin ≡ begins (volume_of v.now).road_first (volume_of v.now).road_points k }
+    ensures { result ≡ road_rule (volume_of v.now) k }
 {
     let road = road_at(v, t, k);
     if ends_fit(c.junctions, road.from, road.to) {

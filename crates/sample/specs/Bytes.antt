@@ -31,15 +31,15 @@ points =
     ∷ []
 
 -- edges, each with from, to, first piece, number of pieces and span: 0 is 1 to 0, 1 is 0 to 2
-unfoldable pub lowEdges : List ℕ
-lowEdges =
+unfoldable pub low_edges : List ℕ
+low_edges =
     1 ∷ 0 ∷ 0 ∷ 1 ∷ 1
     ∷ 0 ∷ 2 ∷ 1 ∷ 1 ∷ 1
     ∷ []
 
 -- pieces, each with starting second, left and right: edge 0 is road 0, edge 1 is road 1, and edge 2 begins with edges 0 and 1
-unfoldable pub firstPieces : List ℕ
-firstPieces =
+unfoldable pub first_pieces : List ℕ
+first_pieces =
     0 ∷ 0 ∷ empty
     ∷ 0 ∷ 1 ∷ empty
     ∷ 0 ∷ 0 ∷ 1
@@ -52,18 +52,18 @@ sample =
     (1 ∷ 3 ∷ 3 ∷ 4 ∷ 3 ∷ 5 ∷ [])
     ++ roads
     ++ points
-    ++ lowEdges
+    ++ low_edges
     ++ (1 ∷ 2 ∷ 2 ∷ 3 ∷ 2 ∷ [])
-    ++ firstPieces
+    ++ first_pieces
     ++ (70806 ∷ 2 ∷ empty ∷ 86359 ∷ 0 ∷ 1 ∷ []))
 
 -- edge 2 with its first piece alone: Q is 3 and edge 2 has one piece
-unfoldable pub onePiece : List ℕ
-onePiece =
+unfoldable pub one_piece : List ℕ
+one_piece =
     one_block (
     (1 ∷ 3 ∷ 3 ∷ 4 ∷ 3 ∷ 3 ∷ [])
     ++ roads
     ++ points
-    ++ lowEdges
+    ++ low_edges
     ++ (1 ∷ 2 ∷ 2 ∷ 1 ∷ 2 ∷ [])
-    ++ firstPieces)
+    ++ first_pieces)

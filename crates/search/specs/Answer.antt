@@ -4,16 +4,16 @@
 use Rattle.std.specs.Prelude.{ℕ, ◌*◌, ◌^◌, ◌≡◌, Bool, true, List, [], ◌∷◌, ◌++◌, ltb, leb, length}
 use Rattle.block.specs.Choose.{choose, both}
 use Rattle.theory.specs.Settling as Rule
-use Rattle.theory.specs.Settling.{UpperEnd, none, at_most, no_way, closed, open-from, answer}
-use Rattle.records.specs.Format.{Volume, volumeOf}
-use Rattle.volume.specs.Open.{openOf}
+use Rattle.theory.specs.Settling.{UpperEnd, none, at_most, no_way, closed, open_from, answer}
+use Rattle.records.specs.Format.{Volume, volume_of}
+use Rattle.volume.specs.Open.{open_of}
 use Rattle.volume.specs.declared.Opening as Opening
-use Rattle.travel.specs.Network.{networkOf}
-use Rattle.travel.specs.Written.{withRoads}
+use Rattle.travel.specs.Network.{network_of}
+use Rattle.travel.specs.Written.{with_roads}
 use Rattle.settle.specs.Work.{cleared}
 use Rattle.settle.specs.declared.Upper.{Upper}
 use Rattle.settle.specs.declared.Upper.TheVariants.{At, Missing}
-use Rattle.search.specs.Path.{pathOf}
+use Rattle.search.specs.Path.{path_of}
 use Rattle.search.specs.declared.Answer.{Answer}
 use Rattle.search.specs.declared.Answer.TheVariants.{Closed, NoWay, Open, Refused}
 
@@ -24,14 +24,14 @@ abbrev pub fits : ℕ → Bool
 fits a = ltb a (2 ^ 64)
 
 -- and so does an upper end, where there is one
-abbrev pub upperFits : UpperEnd → Bool
-upperFits none = true
-upperFits (at_most a) = fits a
+abbrev pub upper_fits : UpperEnd → Bool
+upper_fits none = true
+upper_fits (at_most a) = fits a
 
 -- the upper end, or none
-abbrev pub upperTold : UpperEnd → Upper
-upperTold none = Missing
-upperTold (at_most a) = At a
+abbrev pub upper_told : UpperEnd → Upper
+upper_told none = Missing
+upper_told (at_most a) = At a
 
 -- the rule's answer as the search gives it, with room for so many roads. Closed gives arrival, units used and the number of roads; no way
 -- gives units used; open gives lower end, upper end or none, and units used. 9: closed, but more roads than room, at the roads needed;
@@ -39,21 +39,21 @@ upperTold (at_most a) = At a
 unfoldable pub told : Volume → ℕ → ℕ → Rule.Answer → Answer
 told vol x room (no_way n) = NoWay n
 told vol x room (closed a n es) =
-    let roads = length (pathOf vol es x) in
+    let roads = length (path_of vol es x) in
     choose (leb roads room) (choose (fits a) (Closed a n roads) (Refused 10 0)) (Refused 9 roads)
-told vol x room (open-from l h n) = choose (both (fits l) (upperFits h)) (Open l (upperTold h) n) (Refused 10 0)
+told vol x room (open_from l h n) = choose (both (fits l) (upper_fits h)) (Open l (upper_told h) n) (Refused 10 0)
 
 -- the path of the rule's answer: the chain of edges unfolded, where it is closed
-abbrev pub pathTold : Volume → ℕ → Rule.Answer → List ℕ
-pathTold vol x (no_way n) = []
-pathTold vol x (closed a n es) = pathOf vol es x
-pathTold vol x (open-from l h n) = []
+abbrev pub path_told : Volume → ℕ → Rule.Answer → List ℕ
+path_told vol x (no_way n) = []
+path_told vol x (closed a n es) = path_of vol es x
+path_told vol x (open_from l h n) = []
 
 -- A search of an open volume
 
 -- the settling rule's answer to the question from `from` to `to`, with departure x and budget b
 abbrev pub ruled : Volume → ℕ → ℕ → ℕ → ℕ → Rule.Answer
-ruled vol from to x b = answer (networkOf vol) from to x b
+ruled vol from to x b = answer (network_of vol) from to x b
 
 -- 7: start, then destination, not below N; 8: work area below 8N numbers; then the rule. The work area has `space` numbers, the path
 -- list room for `room` roads
@@ -68,35 +68,35 @@ answer_in vol from to x b space room =
 -- A search of any bytes
 
 -- 1 to 6 as opening refuses them; else the answer r of the open volume
-abbrev pub afterOpening : Opening.Opening → Answer → Answer
-afterOpening (Opening.TheVariants.Opened c) r = r
-afterOpening (Opening.TheVariants.Refused number place) r = Refused number place
+abbrev pub after_opening : Opening.Opening → Answer → Answer
+after_opening (Opening.TheVariants.Opened c) r = r
+after_opening (Opening.TheVariants.Refused number place) r = Refused number place
 
 -- the answer for the bytes v
 unfoldable pub answer_of : List ℕ → ℕ → ℕ → ℕ → ℕ → ℕ → ℕ → Answer
-answer_of v from to x b space room = afterOpening (openOf v) (answer_in (volumeOf v) from to x b space room)
+answer_of v from to x b space room = after_opening (open_of v) (answer_in (volume_of v) from to x b space room)
 
 -- The lent lists
 
 -- the work area after the answer: the first n numbers are zero after any search not refused 1 to 8, all others keep their values
-abbrev pub workAfter : Answer → ℕ → List ℕ → List ℕ
-workAfter (Closed a u k) n before = cleared before n
-workAfter (NoWay u) n before = cleared before n
-workAfter (Open l h u) n before = cleared before n
-workAfter (Refused number place) n before = choose (leb number 8) before (cleared before n)
+abbrev pub work_after : Answer → ℕ → List ℕ → List ℕ
+work_after (Closed a u k) n before = cleared before n
+work_after (NoWay u) n before = cleared before n
+work_after (Open l h u) n before = cleared before n
+work_after (Refused number place) n before = choose (leb number 8) before (cleared before n)
 
 -- the path list after the answer: it changes only on a closed answer, and only its first places, one for each road
-abbrev pub pathAfter : Answer → List ℕ → List ℕ → List ℕ
-pathAfter (Closed a u k) roads before = withRoads roads before
-pathAfter (NoWay u) roads before = before
-pathAfter (Open l h u) roads before = before
-pathAfter (Refused number place) roads before = before
+abbrev pub path_after : Answer → List ℕ → List ℕ → List ℕ
+path_after (Closed a u k) roads before = with_roads roads before
+path_after (NoWay u) roads before = before
+path_after (Open l h u) roads before = before
+path_after (Refused number place) roads before = before
 
 -- the search of the volume in v, with a work area and a path list lent, answers r and leaves them as `workOut` and `pathOut`
 pub record Searched (v : List ℕ) (from to x b : ℕ) (work path : List ℕ) (r : Answer) (workOut pathOut : List ℕ) : Type 0 where
   pub answers : r ≡ answer_of v from to x b (length work) (length path)
-  pub clears : workOut ≡ workAfter r (8 * (volumeOf v).junctions) work
-  pub writes : pathOut ≡ pathAfter r (pathTold (volumeOf v) x (ruled (volumeOf v) from to x b)) path
+  pub clears : workOut ≡ work_after r (8 * (volume_of v).junctions) work
+  pub writes : pathOut ≡ path_after r (path_told (volume_of v) x (ruled (volume_of v) from to x b)) path
 
 -- The document's numbers
 
@@ -106,15 +106,15 @@ pub record Paper : Type 0 where
   pub values : List ℕ
 
 -- the upper end, if there is one
-abbrev pub upperValue : Upper → List ℕ
-upperValue (At a) = a ∷ []
-upperValue Missing = []
+abbrev pub upper_value : Upper → List ℕ
+upper_value (At a) = a ∷ []
+upper_value Missing = []
 
 -- closed gives arrival, units used and the number of roads; no way units used; open lower end, upper end and units used; a refusal its place
 abbrev pub paper : Answer → Paper
 paper (Closed arrival used roads) = record { number = 0; values = arrival ∷ used ∷ roads ∷ [] }
 paper (NoWay used) = record { number = 0; values = used ∷ [] }
-paper (Open lower upper used) = record { number = 0; values = lower ∷ (upperValue upper ++ (used ∷ [])) }
+paper (Open lower upper used) = record { number = 0; values = lower ∷ (upper_value upper ++ (used ∷ [])) }
 paper (Refused number place) = record { number = number; values = place ∷ [] }
 
 -- the number of an answer, by which the promises tell refusals apart

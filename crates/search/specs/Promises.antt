@@ -9,190 +9,190 @@ use Rattle.block.specs.Choose.{choose_no}
 use Rattle.theory.specs.Ways.{Drives, Way, LeastArrival}
 use Rattle.theory.specs.Network.{Network, Roads, FullDay, SoundNetwork}
 use Rattle.theory.specs.Settling as Rule
-use Rattle.theory.specs.Settling.{none, open-from}
+use Rattle.theory.specs.Settling.{none, open_from}
 use Rattle.theory.specs.Windows.{NotBelow, IsAt, Tops, used, Finished, Narrows}
 use Rattle.theory.specs.Promises as Theory
-use Rattle.records.specs.Format.{volumeOf}
-use Rattle.volume.specs.Open.{openOf}
+use Rattle.records.specs.Format.{volume_of}
+use Rattle.volume.specs.Open.{open_of}
 use Rattle.volume.specs.Opened.{opened}
 use Rattle.records.specs.declared.tables.Counts.{Counts}
 use Rattle.volume.specs.declared.Opening.TheVariants.{Opened}
-use Rattle.travel.specs.Network.{networkOf, sound-network}
+use Rattle.travel.specs.Network.{network_of, sound_network}
 use Rattle.settle.specs.Work.{cleared}
 use Rattle.settle.specs.Units.{Question}
-use Rattle.settle.specs.Outcome.{upperOf}
+use Rattle.settle.specs.Outcome.{upper_of}
 use Rattle.settle.specs.declared.Upper.{Upper}
-use Rattle.search.specs.Path.{pathOf}
-use Rattle.search.specs.Answer.{pathTold, ruled, answer_of, workAfter, pathAfter, Searched, number}
-use Rattle.search.specs.Steps.{early-keeps, rule-answers}
-use Rattle.search.specs.Clock.{answer-by, told-answers, told-never-late}
-use Rattle.search.specs.Tells.{said, Tells, plainly, bare, Given, Comes, ruled-so, refused-so, comes, given, tells-plainly, said-is, below-bare, bare-tops, finished-bare, bare-finished, used-bare, narrows-bare}
+use Rattle.search.specs.Path.{path_of}
+use Rattle.search.specs.Answer.{path_told, ruled, answer_of, work_after, path_after, Searched, number}
+use Rattle.search.specs.Steps.{early_keeps, rule_answers}
+use Rattle.search.specs.Clock.{answer_by_lem, told_answers, told_never_late}
+use Rattle.search.specs.Tells.{said, Tells, plainly, bare, Given, Comes, ruled_so, refused_so, comes, given, tells_plainly, said_is, below_bare, bare_tops, finished_bare, bare_finished, used_bare, narrows_bare}
 use Rattle.search.specs.declared.Answer.{Answer}
 use Rattle.search.specs.declared.Answer.TheVariants.{Closed, NoWay, Open, Refused}
 
 -- the network that the bytes hold
 abbrev pub network : List ℕ → Network
-network v = networkOf (volumeOf v)
+network v = network_of (volume_of v)
 
 -- Every input has one answer
 
 module _ {v : List ℕ} {from to x b : ℕ} {work path : List ℕ} where
   -- any two outcomes that the contract allows are equal
-  pub only-one-answer : {r s : Answer} {w u p q : List ℕ} → Searched v from to x b work path r w p → Searched v from to x b work path s u q
+  pub only_one_answer : {r s : Answer} {w u p q : List ℕ} → Searched v from to x b work path r w p → Searched v from to x b work path s u q
       → (r ≡ s) × (w ≡ u) × (p ≡ q)
-  only-one-answer {r} {s} {w} {u} {p} {q} H K =
+  only_one_answer {r} {s} {w} {u} {p} {q} H K =
       let e = H.answers ∙ sym K.answers in (
         e,
-        H.clears ∙ ap (λ (a : Answer). workAfter a (8 * (volumeOf v).junctions) work) e ∙ sym K.clears,
-        H.writes ∙ ap (λ (a : Answer). pathAfter a (pathTold (volumeOf v) x (ruled (volumeOf v) from to x b)) path) e ∙ sym K.writes,
+        H.clears ∙ ap (λ (a : Answer). work_after a (8 * (volume_of v).junctions) work) e ∙ sym K.clears,
+        H.writes ∙ ap (λ (a : Answer). path_after a (path_told (volume_of v) x (ruled (volume_of v) from to x b)) path) e ∙ sym K.writes,
       )
 
   -- a refusal has one of the document's numbers
-  pub refusal-numbered : {k place : ℕ} {w p : List ℕ} → Searched v from to x b work path (Refused k place) w p → (1 ≤ k) × (k ≤ 10)
-  refusal-numbered {k} {place} H = go (rw H.answers (comes v from to x b (length work) (length path)))
+  pub refusal_numbered : {k place : ℕ} {w p : List ℕ} → Searched v from to x b work path (Refused k place) w p → (1 ≤ k) × (k ≤ 10)
+  refusal_numbered {k} {place} H = go (rw H.answers (comes v from to x b (length work) (length path)))
     where
-      go : Comes (volumeOf v) from to x b (length path) (Refused k place) → (1 ≤ k) × (k ≤ 10)
-      go (ruled-so g) = (omega (arith, g.tells.0), g.tells.1)
-      go (refused-so l h) = (l, omega arith)
+      go : Comes (volume_of v) from to x b (length path) (Refused k place) → (1 ≤ k) × (k ≤ 10)
+      go (ruled_so g) = (omega (arith, g.tells.0), g.tells.1)
+      go (refused_so l h) = (l, omega arith)
 
   -- but 10 is never given: the question's departure and budget are 32-bit numbers
-  pub clock-never : {k place : ℕ} {w p : List ℕ} → x < 2 ^ 32 → b < 2 ^ 32 → Searched v from to x b work path (Refused k place) w p → k ≤ 9
-  clock-never {k} {place} xs bs H = go (rw H.answers (comes v from to x b (length work) (length path)))
+  pub clock_never : {k place : ℕ} {w p : List ℕ} → x < 2 ^ 32 → b < 2 ^ 32 → Searched v from to x b work path (Refused k place) w p → k ≤ 9
+  clock_never {k} {place} xs bs H = go (rw H.answers (comes v from to x b (length work) (length path)))
     where
-      go : Comes (volumeOf v) from to x b (length path) (Refused k place) → k ≤ 9
-      go (ruled-so g) =
-          let m = answer-by (volumeOf v) g.sound from to g.to_in x b in
-          let late = told-never-late (volumeOf v) x (length path) _ (ruled (volumeOf v) from to x b) m (omega arith) in
+      go : Comes (volume_of v) from to x b (length path) (Refused k place) → k ≤ 9
+      go (ruled_so g) =
+          let m = answer_by_lem (volume_of v) g.sound from to g.to_in x b in
+          let late = told_never_late (volume_of v) x (length path) _ (ruled (volume_of v) from to x b) m (omega arith) in
           rw (← g.is) at late
-      go (refused-so l h) = omega arith
+      go (refused_so l h) = omega arith
 
   -- 9 is given only where the path has more roads than room, at the roads needed
-  pub path-refused : {place : ℕ} {w p : List ℕ} → Searched v from to x b work path (Refused 9 place) w p
-      → (place ≡ length (pathTold (volumeOf v) x (ruled (volumeOf v) from to x b))) × (length path < place)
-  path-refused {place} H = go (rw H.answers (comes v from to x b (length work) (length path)))
+  pub path_refused : {place : ℕ} {w p : List ℕ} → Searched v from to x b work path (Refused 9 place) w p
+      → (place ≡ length (path_told (volume_of v) x (ruled (volume_of v) from to x b))) × (length path < place)
+  path_refused {place} H = go (rw H.answers (comes v from to x b (length work) (length path)))
     where
-      go : Comes (volumeOf v) from to x b (length path) (Refused 9 place)
-          → (place ≡ length (pathTold (volumeOf v) x (ruled (volumeOf v) from to x b))) × (length path < place)
-      go (ruled-so g) = g.tells.2 refl
-      go (refused-so l h) = absurd (omega arith)
+      go : Comes (volume_of v) from to x b (length path) (Refused 9 place)
+          → (place ≡ length (path_told (volume_of v) x (ruled (volume_of v) from to x b))) × (length path < place)
+      go (ruled_so g) = g.tells.2 refl
+      go (refused_so l h) = absurd (omega arith)
 
   -- on a refusal the path list is as it was
-  pub refusal-keeps-path : {k place : ℕ} {w p : List ℕ} → Searched v from to x b work path (Refused k place) w p → p ≡ path
-  refusal-keeps-path H = H.writes
+  pub refusal_keeps_path : {k place : ℕ} {w p : List ℕ} → Searched v from to x b work path (Refused k place) w p → p ≡ path
+  refusal_keeps_path H = H.writes
 
   -- and on one of 1 to 8 the work area too
-  pub refusal-keeps-work : {k place : ℕ} {w p : List ℕ} → k ≤ 8 → Searched v from to x b work path (Refused k place) w p → w ≡ work
-  refusal-keeps-work {k} {place} h H = H.clears ∙ sym (early-keeps k place (8 * (volumeOf v).junctions) work h)
+  pub refusal_keeps_work : {k place : ℕ} {w p : List ℕ} → k ≤ 8 → Searched v from to x b work path (Refused k place) w p → w ≡ work
+  refusal_keeps_work {k} {place} h H = H.clears ∙ sym (early_keeps k place (8 * (volume_of v).junctions) work h)
 
   -- after 9 its first 8N numbers are zero
-  pub refusal-clears-work : {k place : ℕ} {w p : List ℕ} → 9 ≤ k → Searched v from to x b work path (Refused k place) w p
-      → w ≡ cleared work (8 * (volumeOf v).junctions)
-  refusal-clears-work {k} h H = H.clears ∙ choose_no _ _ (lt-leb k 8 h)
+  pub refusal_clears_work : {k place : ℕ} {w p : List ℕ} → 9 ≤ k → Searched v from to x b work path (Refused k place) w p
+      → w ≡ cleared work (8 * (volume_of v).junctions)
+  refusal_clears_work {k} h H = H.clears ∙ choose_no _ _ (lt-leb k 8 h)
 
 -- there is one for every input
-pub every-input-answered : (v : List ℕ) (from to x b : ℕ) (work path : List ℕ)
+pub every_input_answered : (v : List ℕ) (from to x b : ℕ) (work path : List ℕ)
     → (r : Answer) × (w : List ℕ) × (p : List ℕ) × Searched v from to x b work path r w p
-every-input-answered v from to x b work path = (
+every_input_answered v from to x b work path = (
   answer_of v from to x b (length work) (length path),
-  workAfter (answer_of v from to x b (length work) (length path)) (8 * (volumeOf v).junctions) work,
-  pathAfter (answer_of v from to x b (length work) (length path)) (pathTold (volumeOf v) x (ruled (volumeOf v) from to x b)) path,
+  work_after (answer_of v from to x b (length work) (length path)) (8 * (volume_of v).junctions) work,
+  path_after (answer_of v from to x b (length work) (length path)) (path_told (volume_of v) x (ruled (volume_of v) from to x b)) path,
   record { answers = refl; clears = refl; writes = refl },
 )
 
 -- a question that can be asked of a volume that opens, with room for the path, is answered: nothing is refused without its ground
-pub asked-is-answered : {v : List ℕ} {from to x b : ℕ} {work path w p : List ℕ} {r : Answer} {c : Counts} → openOf v ≡ Opened c
-    → Question (volumeOf v) from to x b work → length (pathTold (volumeOf v) x (ruled (volumeOf v) from to x b)) ≤ length path
+pub asked_is_answered : {v : List ℕ} {from to x b : ℕ} {work path w p : List ℕ} {r : Answer} {c : Counts} → open_of v ≡ Opened c
+    → Question (volume_of v) from to x b work → length (path_told (volume_of v) x (ruled (volume_of v) from to x b)) ≤ length path
     → Searched v from to x b work path r w p → number r ≡ 0
-asked-is-answered {v} {from} {to} {x} {b} {work} {path} {w} {p} {r} {c} e A room H =
-    let vol = volumeOf v in
+asked_is_answered {v} {from} {to} {x} {b} {work} {path} {w} {p} {r} {c} e A room H =
+    let vol = volume_of v in
     let n = (opened v c e).counted.junctions in
-    let m = answer-by vol (opened v c e).sound from to A.destined x b in
-    ap number (H.answers ∙ sym (rule-answers v from to x b work path c e (omega (arith, A.start)) (omega (arith, A.destined)) (omega (arith, A.room))))
-    ∙ told-answers vol x (length path) _ (ruled vol from to x b) m (omega (arith, A.departs, A.budgeted)) room
+    let m = answer_by_lem vol (opened v c e).sound from to A.destined x b in
+    ap number (H.answers ∙ sym (rule_answers v from to x b work path c e (omega (arith, A.start)) (omega (arith, A.destined)) (omega (arith, A.room))))
+    ∙ told_answers vol x (length path) _ (ruled vol from to x b) m (omega (arith, A.departs, A.budgeted)) room
 
 -- The path
 
 -- a path handed out leads from start to destination and, driven road by road from the departure, takes exactly to the arrival; it stands in
 -- the first places of the path list, one for each road, and the other places are as they were
-pub path-leads : {v : List ℕ} {from to x b a n k : ℕ} {work path w p : List ℕ} → Searched v from to x b work path (Closed a n k) w p
+pub path_leads : {v : List ℕ} {from to x b a n k : ℕ} {work path w p : List ℕ} → Searched v from to x b work path (Closed a n k) w p
     → Drives (Roads (network v)) from x to a (take k p) × (drop k p ≡ drop k path)
-unfolding networkOf
-path-leads {v} {from} {to} {x} {b} {a} {n} {k} {work} {path} {w} {p} H =
-    let vol = volumeOf v in
+unfolding network_of
+path_leads {v} {from} {to} {x} {b} {a} {n} {k} {work} {path} {w} {p} H =
+    let vol = volume_of v in
     let g = given v from to x b (length work) (length path) (Closed a n k) H.answers refl in
     let es = g.tells.0 in
     let count = g.tells.2 in
-    let roads = pathOf vol es x in
-    let is = H.writes ∙ ap (λ (q : Rule.Answer). pathAfter (Closed a n k) (pathTold vol x q) path) g.tells.1 in
+    let roads = path_of vol es x in
+    let is = H.writes ∙ ap (λ (q : Rule.Answer). path_after (Closed a n k) (path_told vol x q) path) g.tells.1 in
     let first : take k p ≡ roads = ap (take k) is ∙ take_at roads (drop (length roads) path) k (sym count) in
     let rest = ap (drop k) is ∙ drop_at roads (drop (length roads) path) k (sym count) ∙ ap (λ (j : ℕ). drop j path) (sym count) in
-    (rw first (Theory.trail-drives (networkOf vol) (sound-network vol g.sound) from to x g.from_in g.to_in b a n es g.tells.1), rest)
+    (rw first (Theory.trail_drives (network_of vol) (sound_network vol g.sound) from to x g.from_in g.to_in b a n es g.tells.1), rest)
 
 -- On every volume that opens, full or not
 
 module _ {v : List ℕ} {from to x b : ℕ} {work path w p : List ℕ} {r : Answer} (H : Searched v from to x b work path r w p) (z : number r ≡ 0) where
   -- the rule's answer behind it
-  behind : Given (volumeOf v) from to x b (length path) r
+  behind : Given (volume_of v) from to x b (length path) r
   behind = given v from to x b (length work) (length path) r H.answers z
 
   -- on a sound network
   sound : SoundNetwork (network v)
-  sound = sound-network (volumeOf v) behind.sound
+  sound = sound_network (volume_of v) behind.sound
 
   -- the window is the rule's
-  window : said r ≡ bare (ruled (volumeOf v) from to x b)
-  window = said-is (volumeOf v) x (length path) (ruled (volumeOf v) from to x b) r behind.tells z
+  window : said r ≡ bare (ruled (volume_of v) from to x b)
+  window = said_is (volume_of v) x (length path) (ruled (volume_of v) from to x b) r behind.tells z
 
   -- the first 8N work numbers are zero, all others as they were
-  pub work-is-cleared : w ≡ cleared work (8 * (volumeOf v).junctions)
-  work-is-cleared = H.clears ∙ go r z behind.tells
+  pub work_is_cleared : w ≡ cleared work (8 * (volume_of v).junctions)
+  work_is_cleared = H.clears ∙ go r z behind.tells
     where
-      go : (r : Answer) → number r ≡ 0 → Tells (volumeOf v) x (length path) (ruled (volumeOf v) from to x b) r
-          → workAfter r (8 * (volumeOf v).junctions) work ≡ cleared work (8 * (volumeOf v).junctions)
+      go : (r : Answer) → number r ≡ 0 → Tells (volume_of v) x (length path) (ruled (volume_of v) from to x b) r
+          → work_after r (8 * (volume_of v).junctions) work ≡ cleared work (8 * (volume_of v).junctions)
       go (Closed a n k) z t = refl
       go (NoWay n) z t = refl
       go (Open l h n) z t = refl
       go (Refused k place) z t = absurd (omega arith)
 
   -- units used never exceed the budget, nor 2N - 1
-  pub units-used : (used (said r) ≤ b) × (used (said r) < (volumeOf v).junctions + (volumeOf v).junctions)
-  unfolding networkOf
-  units-used =
-      rw (window, used-bare (ruled (volumeOf v) from to x b))
-      (Theory.units-bounded (network v) sound from to x behind.from_in behind.to_in b)
+  pub units_used : (used (said r) ≤ b) × (used (said r) < (volume_of v).junctions + (volume_of v).junctions)
+  unfolding network_of
+  units_used =
+      rw (window, used_bare (ruled (volume_of v) from to x b))
+      (Theory.units_bounded (network v) sound from to x behind.from_in behind.to_in b)
 
   -- 2N - 1 units always finish
-  pub enough-finishes : (volumeOf v).junctions + (volumeOf v).junctions ≤ b + 1 → Finished (said r)
-  unfolding networkOf
-  enough-finishes h =
-      rw window (finished-bare (ruled (volumeOf v) from to x b)
-      (Theory.enough-finishes (network v) sound from to x behind.from_in behind.to_in b h))
+  pub enough_finishes : (volume_of v).junctions + (volume_of v).junctions ≤ b + 1 → Finished (said r)
+  unfolding network_of
+  enough_finishes h =
+      rw window (finished_bare (ruled (volume_of v) from to x b)
+      (Theory.enough_finishes (network v) sound from to x behind.from_in behind.to_in b h))
 
   -- some walk arrives at the upper end of the window, closed or open
-  pub upper-is-driven : (y : ℕ) → Tops (said r) y → Way (Roads (network v)) from x to y
-  unfolding networkOf
-  upper-is-driven y t =
-      Theory.upper-is-driven (network v) sound from to x behind.from_in behind.to_in b y
-      (bare-tops (ruled (volumeOf v) from to x b) y (rw window at t))
+  pub upper_is_driven : (y : ℕ) → Tops (said r) y → Way (Roads (network v)) from x to y
+  unfolding network_of
+  upper_is_driven y t =
+      Theory.upper_is_driven (network v) sound from to x behind.from_in behind.to_in b y
+      (bare_tops (ruled (volume_of v) from to x b) y (rw window at t))
 
 -- More budget
 
 -- a refusal's window is the widest
-widest : (q : Rule.Answer) → Narrows (open-from 0 none 0) q
+widest : (q : Rule.Answer) → Narrows (open_from 0 none 0) q
 widest q = record { units = omega arith; lower = λ y h. omega arith; upper = λ y t. absurd t; stays = λ f. absurd f }
 
 module _ {v : List ℕ} {from to x b c : ℕ} {work path w p workMore pathMore u q : List ℕ} {r s : Answer} (H : Searched v from to x b work path r w p) (K : Searched v from to x c workMore pathMore s u q) (more : b ≤ c) (z : number s ≡ 0) where
   -- the rule's own window
-  rule-narrows : number r ≡ 0 → Narrows (ruled (volumeOf v) from to x b) (ruled (volumeOf v) from to x c)
-  unfolding networkOf
-  rule-narrows y = Theory.budget-narrows (network v) (sound H y) from to x (behind H y).from_in (behind H y).to_in b c more
+  rule_narrows : number r ≡ 0 → Narrows (ruled (volume_of v) from to x b) (ruled (volume_of v) from to x c)
+  unfolding network_of
+  rule_narrows y = Theory.budget_narrows (network v) (sound H y) from to x (behind H y).from_in (behind H y).to_in b c more
 
   -- more budget never widens a window
-  pub budget-narrows : Narrows (said r) (said s)
-  budget-narrows = go r refl
+  pub budget_narrows : Narrows (said r) (said s)
+  budget_narrows = go r refl
     where
       narrows : number r ≡ 0 → Narrows (said r) (said s)
-      narrows y = rw (window H y, window K z) (narrows-bare (ruled (volumeOf v) from to x b) (ruled (volumeOf v) from to x c) (rule-narrows y))
+      narrows y = rw (window H y, window K z) (narrows_bare (ruled (volume_of v) from to x b) (ruled (volume_of v) from to x c) (rule_narrows y))
 
       go : (a : Answer) → r ≡ a → Narrows (said r) (said s)
       go (Closed a n k) e = narrows (ap number e)
@@ -201,54 +201,54 @@ module _ {v : List ℕ} {from to x b c : ℕ} {work path w p workMore pathMore u
       go (Refused k place) e = rw e (widest (said s))
 
   -- nor changes a finished answer
-  pub finished-stays : number r ≡ 0 → Finished (said r) → s ≡ r
-  finished-stays y f =
-      let vol = volumeOf v in
-      let same = (rule-narrows y).stays (bare-finished (ruled vol from to x b) (rw (window H y) at f)) in
-      tells-plainly vol x (length pathMore) (ruled vol from to x c) s (behind K z).tells z
+  pub finished_stays : number r ≡ 0 → Finished (said r) → s ≡ r
+  finished_stays y f =
+      let vol = volume_of v in
+      let same = (rule_narrows y).stays (bare_finished (ruled vol from to x b) (rw (window H y) at f)) in
+      tells_plainly vol x (length pathMore) (ruled vol from to x c) s (behind K z).tells z
       ∙ ap (plainly vol x) same
-      ∙ sym (tells-plainly vol x (length path) (ruled vol from to x b) r (behind H y).tells y)
+      ∙ sym (tells_plainly vol x (length path) (ruled vol from to x b) r (behind H y).tells y)
 
 -- On a full volume
 
 module _ {v : List ℕ} (F : FullDay (network v)) {from to x b : ℕ} {work path w p : List ℕ} where
   -- a closed arrival is the least over every walk
-  pub closed-is-least : {a n k : ℕ} → Searched v from to x b work path (Closed a n k) w p → LeastArrival (Roads (network v)) from x to a
-  unfolding networkOf
-  closed-is-least {a} {n} H =
+  pub closed_is_least : {a n k : ℕ} → Searched v from to x b work path (Closed a n k) w p → LeastArrival (Roads (network v)) from x to a
+  unfolding network_of
+  closed_is_least {a} {n} H =
       let g = behind H refl in
-      Theory.closed-is-least (network v) (sound H refl) F from to x g.from_in g.to_in b a n g.tells.0 g.tells.1
+      Theory.closed_is_least (network v) (sound H refl) F from to x g.from_in g.to_in b a n g.tells.0 g.tells.1
 
   -- no way is said only where no walk exists
-  pub no-way-is-none : {n : ℕ} → Searched v from to x b work path (NoWay n) w p → (y : ℕ) → Way (Roads (network v)) from x to y → ⊥
-  unfolding networkOf
-  no-way-is-none {n} H y =
+  pub no_way_is_none : {n : ℕ} → Searched v from to x b work path (NoWay n) w p → (y : ℕ) → Way (Roads (network v)) from x to y → ⊥
+  unfolding network_of
+  no_way_is_none {n} H y =
       let g = behind H refl in
-      Theory.no-way-is-none (network v) (sound H refl) F from to x g.from_in g.to_in b n y g.tells
+      Theory.no_way_is_none (network v) (sound H refl) F from to x g.from_in g.to_in b n y g.tells
 
   -- an open window holds the least arrival, if there is one: no walk arrives before its lower end, and some walk arrives at its upper
   -- end, where it has one
-  pub open-holds : {l n : ℕ} {h : Upper} → Searched v from to x b work path (Open l h n) w p
-      → ((y : ℕ) → Way (Roads (network v)) from x to y → l ≤ y) × ((y : ℕ) → IsAt (upperOf h) y → Way (Roads (network v)) from x to y)
-  unfolding networkOf
-  open-holds {l} {n} {h} H =
+  pub open_holds : {l n : ℕ} {h : Upper} → Searched v from to x b work path (Open l h n) w p
+      → ((y : ℕ) → Way (Roads (network v)) from x to y → l ≤ y) × ((y : ℕ) → IsAt (upper_of h) y → Way (Roads (network v)) from x to y)
+  unfolding network_of
+  open_holds {l} {n} {h} H =
       let g = behind H refl in
-      Theory.open-holds (network v) (sound H refl) F from to x g.from_in g.to_in b l n (upperOf h) g.tells
+      Theory.open_holds (network v) (sound H refl) F from to x g.from_in g.to_in b l n (upper_of h) g.tells
 
 -- Leaving later never closes earlier
 
 module _ {v : List ℕ} (F : FullDay (network v)) {from to x b y c : ℕ} {work path w p workLater pathLater u q : List ℕ} (later : x ≤ y) where
   -- whatever the later search has found, at any budget, is not below the earlier one's window
-  pub later-never-earlier : {r s : Answer} → Searched v from to x b work path r w p → Searched v from to y c workLater pathLater s u q
+  pub later_never_earlier : {r s : Answer} → Searched v from to x b work path r w p → Searched v from to y c workLater pathLater s u q
       → number r ≡ 0 → number s ≡ 0 → (t : ℕ) → Tops (said s) t → NotBelow (said r) t
-  unfolding networkOf
-  later-never-earlier H K hr hs t top =
+  unfolding network_of
+  later_never_earlier H K hr hs t top =
       let g = behind H hr in
-      rw (window H hr) (below-bare (ruled (volumeOf v) from to x b) t
-      (Theory.later-never-earlier (network v) (sound H hr) F from to x g.from_in g.to_in y b c t later
-      (bare-tops (ruled (volumeOf v) from to y c) t (rw (window K hs) at top))))
+      rw (window H hr) (below_bare (ruled (volume_of v) from to x b) t
+      (Theory.later_never_earlier (network v) (sound H hr) F from to x g.from_in g.to_in y b c t later
+      (bare_tops (ruled (volume_of v) from to y c) t (rw (window K hs) at top))))
 
   -- in particular the arrivals of two closed answers are in the order of their departures
-  pub later-closes-later : {a d n m k j : ℕ} → Searched v from to x b work path (Closed a n k) w p
+  pub later_closes_later : {a d n m k j : ℕ} → Searched v from to x b work path (Closed a n k) w p
       → Searched v from to y c workLater pathLater (Closed d m j) u q → a ≤ d
-  later-closes-later {a} {d} H K = later-never-earlier H K refl refl d refl
+  later_closes_later {a} {d} H K = later_never_earlier H K refl refl d refl

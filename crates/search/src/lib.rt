@@ -1,15 +1,15 @@
 // The earliest-arrival search with a budget: document 01, "The settling rule" and "What comes back". The rule itself, over the lent
 // work area, is the crate `settle`'s; here are the trail, the path, the refusals and the answer.
 ghost use Rattle.std.specs.Prelude.{◌≡◌, ◌^◌, ◌≤◌, ◌<◌};
-ghost use Rattle.records.specs.Format.{volumeOf, Laid};
-ghost use Rattle.volume.specs.Open.{openOf};
+ghost use Rattle.records.specs.Format.{volume_of, Laid};
+ghost use Rattle.volume.specs.Open.{open_of};
 ghost use Rattle.volume.specs.Opened.{OpenVolume};
 ghost use Rattle.volume.specs.Sound.{Sound};
 ghost use Rattle.settle.specs.Units.{Question};
-ghost use Rattle.search.specs.Trail.{Walkable, trailOf};
+ghost use Rattle.search.specs.Trail.{Walkable, trail_of};
 ghost use Rattle.search.specs.Path.{Chain};
 ghost use Rattle.search.specs.Answer.{Searched};
-ghost use Rattle.search.specs.Steps.{closedBy, Reported, Applied};
+ghost use Rattle.search.specs.Steps.{closed_by, Reported, Applied};
 
 use crate::path::{count_path, write_path};
 use crate::trail::walk_back;
@@ -43,10 +43,10 @@ fn close(
     path: &mut [u32],
 ) -> Answer
     requires laid { Laid v.now t }
-    requires sound { Sound (volumeOf v.now) }
-    requires walkable { Walkable (volumeOf v.now) n to work.now }
-    requires used_bound { (used ≤ 2048) × Chain (volumeOf v.now) (trailOf (volumeOf v.now) from to used work.now) x }
-    ensures { Reported (volumeOf v.now) x (closedBy (volumeOf v.now) from to arrival used work.now) path.old result path.new }
+    requires sound { Sound (volume_of v.now) }
+    requires walkable { Walkable (volume_of v.now) n to work.now }
+    requires used_bound { (used ≤ 2048) × Chain (volume_of v.now) (trail_of (volume_of v.now) from to used work.now) x }
+    ensures { Reported (volume_of v.now) x (closed_by (volume_of v.now) from to arrival used work.now) path.old result path.new }
 {
     let mut trail = [0u16; 2048];
     let at = walk_back(v, t, n, from, to, used, work, &mut trail);
@@ -70,8 +70,8 @@ fn apply_rule(
     path: &mut [u32],
 ) -> Answer
     requires open_volume { OpenVolume v.now c }
-    requires question { Question (volumeOf v.now) from to x budget work.old }
-    ensures { Applied (volumeOf v.now) from to x budget work.old path.old result work.new path.new }
+    requires question { Question (volume_of v.now) from to x budget work.old }
+    ensures { Applied (volume_of v.now) from to x budget work.old path.old result work.new path.new }
 {
     let n = c.junctions;
     let t = tables_of(c);
@@ -105,7 +105,7 @@ fn search_open(
     work: &mut [u64],
     path: &mut [u32],
 ) -> Answer
-    requires v_value { openOf v.now ≡ Opening.Opened c }
+    requires v_value { open_of v.now ≡ Opening.Opened c }
     requires x_bound { (x < 2 ^ 32) × (budget < 2 ^ 32) }
     ensures { Searched v.now from to x budget work.old path.old result work.new path.new }
 {

@@ -1,10 +1,10 @@
 // The path of a trail: its edges unfolded to roads in driving order, each at its own departure. The roads are counted first, so that a
 // path list with too little room is refused before a single place is written.
 ghost use Rattle.std.specs.Prelude.{◌≡◌, ◌≤◌, length};
-ghost use Rattle.records.specs.Format.{volumeOf, Laid};
+ghost use Rattle.records.specs.Format.{volume_of, Laid};
 ghost use Rattle.volume.specs.Sound.{Sound};
-ghost use Rattle.travel.specs.Written.{withRoads};
-ghost use Rattle.search.specs.Path.{Chain, pathOf};
+ghost use Rattle.travel.specs.Written.{with_roads};
+ghost use Rattle.search.specs.Path.{Chain, path_of};
 
 use records::tables::Tables;
 use travel::path::{count_roads, unfold_edge};
@@ -12,9 +12,9 @@ use travel::path::{count_roads, unfold_edge};
 // How many roads the edges of the trail unfold to for who leaves at x.
 pub fn count_path(v: &[u8], t: Tables, trail: &[u16], x: u64) -> usize
     requires laid { Laid v.now t }
-    requires sound { Sound (volumeOf v.now) }
-    requires chain { Chain (volumeOf v.now) trail.now x }
-    ensures { result ≡ length (pathOf (volumeOf v.now) trail.now x) }
+    requires sound { Sound (volume_of v.now) }
+    requires chain { Chain (volume_of v.now) trail.now x }
+    ensures { result ≡ length (path_of (volume_of v.now) trail.now x) }
 {
     let mut y = x;
     let mut n: usize = 0;
@@ -31,10 +31,10 @@ pub fn count_path(v: &[u8], t: Tables, trail: &[u16], x: u64) -> usize
 // Writes the roads that the edges of the trail unfold to for who leaves at x to the first places of path.
 pub fn write_path(v: &[u8], t: Tables, trail: &[u16], x: u64, path: &mut [u32])
     requires laid { Laid v.now t }
-    requires sound { Sound (volumeOf v.now) }
-    requires chain { Chain (volumeOf v.now) trail.now x }
-    requires x_in_bounds { length (pathOf (volumeOf v.now) trail.now x) ≤ length path.old }
-    ensures { path.new ≡ withRoads (pathOf (volumeOf v.now) trail.now x) path.old }
+    requires sound { Sound (volume_of v.now) }
+    requires chain { Chain (volume_of v.now) trail.now x }
+    requires x_in_bounds { length (path_of (volume_of v.now) trail.now x) ≤ length path.old }
+    ensures { path.new ≡ with_roads (path_of (volume_of v.now) trail.now x) path.old }
 {
     let mut y = x;
     let mut n: usize = 0;

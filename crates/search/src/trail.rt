@@ -1,10 +1,10 @@
 // The trail of a closed answer: from the destination back to the start, by the arc of each state's label.
 ghost use Rattle.std.specs.Prelude.{◌≡◌, ◌*◌, ◌≤◌, ◌<◌, length};
-ghost use Rattle.theory.specs.Settling.{arc-of};
-ghost use Rattle.records.specs.Format.{volumeOf, Laid};
+ghost use Rattle.theory.specs.Settling.{arc_of};
+ghost use Rattle.records.specs.Format.{volume_of, Laid};
 ghost use Rattle.volume.specs.Sound.{Sound};
 ghost use Rattle.settle.specs.Work.{labels};
-ghost use Rattle.search.specs.Trail.{Walkable, cameFrom, Trailed};
+ghost use Rattle.search.specs.Trail.{Walkable, came_from_in, Trailed};
 
 use records::tables::{Tables, edge_from};
 
@@ -16,7 +16,7 @@ const ARC: usize = 2;
 // The arc of state s's label, 0 where it has none.
 fn arc_at(work: &[u64], states: usize, s: usize) -> u64
     requires { (s < states) × (4 * states ≤ length work.now) }
-    ensures { result ≡ arc-of (labels states work.now s) }
+    ensures { result ≡ arc_of (labels states work.now s) }
 {
     if work[STATE_NUMBERS * s] == 0 {
         return 0;
@@ -27,9 +27,9 @@ fn arc_at(work: &[u64], states: usize, s: usize) -> u64
 // The state from which an arc leads to state s: the turn (arc 0) from its own junction, arc 1 + e from the start of edge e.
 fn came_from(v: &[u8], t: Tables, n: usize, s: usize, arc: u64) -> usize
     requires laid { Laid v.now t }
-    requires sound { Sound (volumeOf v.now) }
-    requires n_value { (n ≡ (volumeOf v.now).junctions) × (arc ≤ (volumeOf v.now).edges) }
-    ensures { result ≡ cameFrom (volumeOf v.now) s arc }
+    requires sound { Sound (volume_of v.now) }
+    requires n_value { (n ≡ (volume_of v.now).junctions) × (arc ≤ (volume_of v.now).edges) }
+    ensures { result ≡ came_from_in (volume_of v.now) s arc }
 {
     if arc == 0 {
         if s < n {
@@ -56,10 +56,10 @@ pub fn walk_back(
     trail: &mut [u16],
 ) -> usize
     requires laid { Laid v.now t }
-    requires sound { Sound (volumeOf v.now) }
-    requires walkable { Walkable (volumeOf v.now) n to work.now }
+    requires sound { Sound (volume_of v.now) }
+    requires walkable { Walkable (volume_of v.now) n to work.now }
     requires used_in_bounds { used ≤ length trail.old }
-    ensures { Trailed (volumeOf v.now) from to used work.now trail.new result }
+    ensures { Trailed (volume_of v.now) from to used work.now trail.new result }
 {
     let mut at = trail.len();
     let mut s = n + to;

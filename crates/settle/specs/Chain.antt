@@ -48,13 +48,13 @@ Rechained S w₀ h₀ w h = Chained S w₀ h₀ → Chained S w h
 -- Other stores
 
 -- a chain stands where its states lead on as before
-leads-same : (S : ℕ) (w v : List ℕ) (h : ℕ) (ts : List ℕ) → ((t : ℕ) → Among t ts → after v t ≡ after w t) → Leads S w h ts → Leads S v h ts
-leads-same S w v h [] e l = l
-leads-same S w v h (t ∷ ts) e l = (l.0, rw (e t (inl refl)) (leads-same S w v (after w t) ts (λ u m. e u (inr m)) l.1))
+leads_same : (S : ℕ) (w v : List ℕ) (h : ℕ) (ts : List ℕ) → ((t : ℕ) → Among t ts → after v t ≡ after w t) → Leads S w h ts → Leads S v h ts
+leads_same S w v h [] e l = l
+leads_same S w v h (t ∷ ts) e l = (l.0, rw (e t (inl refl)) (leads_same S w v (after w t) ts (λ u m. e u (inr m)) l.1))
 
 -- where nothing waits the chain is empty
-pub chained-none : (S : ℕ) (w : List ℕ) → ((t : ℕ) → t < S → get_or w (4 * t) 0 ≡ 0) → Chained S w S
-chained-none S w z = record {
+pub chained_none : (S : ℕ) (w : List ℕ) → ((t : ℕ) → t < S → get_or w (4 * t) 0 ≡ 0) → Chained S w S
+chained_none S w z = record {
   chain = [];
   leads = refl;
   once = tt;
@@ -68,7 +68,7 @@ pub chained_same : (S : ℕ) (w v : List ℕ) (h : ℕ) → ((t : ℕ) → Waits
     → ((t : ℕ) → after v t ≡ after w t) → Chained S w h → Chained S v h
 chained_same S w v h f g e C = record {
   chain = C.chain;
-  leads = leads-same S w v h C.chain (λ t m. e t) C.leads;
+  leads = leads_same S w v h C.chain (λ t m. e t) C.leads;
   once = C.once;
   inside = C.inside;
   waits = λ t m. f t (C.waits t m);
@@ -83,7 +83,7 @@ pub chained_more : (S : ℕ) (w v : List ℕ) (h s : ℕ) → s < S → (WaitsAt
     → Chained S w h → Chained S v s
 chained_more S w v h s inside not now on kinds afters C = record {
   chain = s ∷ C.chain;
-  leads = (refl, rw on (leads-same S w v h C.chain (λ t m. afters t (other t m)) C.leads));
+  leads = (refl, rw on (leads_same S w v h C.chain (λ t m. afters t (other t m)) C.leads));
   once = (λ m. not (C.waits s m), C.once);
   inside = λ t. ⊎_elim (λ e. omega arith) (C.inside t);
   waits = λ t. ⊎_elim (λ (e : t ≡ s). rw e now) (λ m. kinds t (other t m) ∙ C.waits t m);
@@ -107,8 +107,8 @@ record Without (s : ℕ) (ts us : List ℕ) : Type 0 where
   once : Once us
 
 -- the first
-without-first : (s : ℕ) (ts : List ℕ) → Once (s ∷ ts) → Without s (s ∷ ts) ts
-without-first s ts o = record {
+without_first : (s : ℕ) (ts : List ℕ) → Once (s ∷ ts) → Without s (s ∷ ts) ts
+without_first s ts o = record {
   one_less = omega arith;
   kept = λ t ne. ⊎_elim (λ e. absurd (ne e)) (λ m. m);
   was = λ t m. (λ e. o.0 (rw e at m), inr m);
@@ -116,8 +116,8 @@ without-first s ts o = record {
 }
 
 -- a later one
-without-later : (s t : ℕ) (ts us : List ℕ) → t ≢ s → Once (t ∷ ts) → Without s ts us → Without s (t ∷ ts) (t ∷ us)
-without-later s t ts us ne o W = record {
+without_later : (s t : ℕ) (ts us : List ℕ) → t ≢ s → Once (t ∷ ts) → Without s ts us → Without s (t ∷ ts) (t ∷ us)
+without_later s t ts us ne o W = record {
   one_less = omega (arith, W.one_less);
   kept = λ u n. ⊎_elim inl (λ m. inr (W.kept u n m));
   was = λ u. ⊎_elim (λ (e : u ≡ t). (λ q. ne (sym e ∙ q), inl e)) (λ m. ((W.was u m).0, inr (W.was u m).1));
@@ -135,8 +135,8 @@ rest_of s [] o = record { rest = []; without = record { one_less = omega arith; 
 rest_of s (t ∷ ts) o = go (ℕ_discrete t s) (rest_of s ts o.1)
   where
     go : Dec (t ≡ s) → Rest s ts → Rest s (t ∷ ts)
-    go (yes e) r = record { rest = ts; without = rw (sym e) (without-first t ts o) }
-    go (no ne) r = record { rest = t ∷ r.rest; without = without-later s t ts r.rest ne o r.without }
+    go (yes e) r = record { rest = ts; without = rw (sym e) (without_first t ts o) }
+    go (no ne) r = record { rest = t ∷ r.rest; without = without_later s t ts r.rest ne o r.without }
 
 -- of S states no more than S can stand in a chain
 pub few : (S : ℕ) (ts : List ℕ) → Once ts → ((t : ℕ) → Among t ts → t < S) → length ts ≤ S
@@ -160,13 +160,13 @@ first_out : (S : ℕ) (w : List ℕ) (h s : ℕ) (ts : List ℕ) → s < S → h
 first_out S w h s [] l e o c = absurd (omega arith)
 first_out S w h s (t ∷ ts) l e o c =
     let q : s ≡ t = sym e ∙ c.0 in
-    rw q (record { rest = ts; leads = c.1; without = without-first t ts o; there = inl refl })
+    rw q (record { rest = ts; leads = c.1; without = without_first t ts o; there = inl refl })
 
 module _ (S : ℕ) (w : List ℕ) (p s : ℕ) (room : 4 * p + 3 < length w) (l : s < S) (on : after w p ≡ s) where
   -- another one: the state before it leads to the one after it
-  later-out : (h : ℕ) (ts : List ℕ) → Once ts → Leads S w h ts → Among p ts → Unlinked S (set w (4 * p + 3) (after w s)) h s ts
-  later-out h [] o c m = absurd m
-  later-out h (t ∷ ts) o c m = go (ℕ_discrete t p) (later-out (after w t) ts o.1 c.1)
+  later_out : (h : ℕ) (ts : List ℕ) → Once ts → Leads S w h ts → Among p ts → Unlinked S (set w (4 * p + 3) (after w s)) h s ts
+  later_out h [] o c m = absurd m
+  later_out h (t ∷ ts) o c m = go (ℕ_discrete t p) (later_out (after w t) ts o.1 c.1)
     where
       v : List ℕ
       v = set w (4 * p + 3) (after w s)
@@ -180,9 +180,9 @@ module _ (S : ℕ) (w : List ℕ) (p s : ℕ) (room : 4 * p + 3 < length w) (l :
         leads = (
           c.0,
           rw (e, get_or-set_same w (4 * p + 3) (after w s) 0 room)
-              (leads-same S w v (after w s) U.rest (λ u i. same u (λ q. o.0 (rw (q ∙ sym e) at (U.without.was u i).1))) U.leads),
+              (leads_same S w v (after w s) U.rest (λ u i. same u (λ q. o.0 (rw (q ∙ sym e) at (U.without.was u i).1))) U.leads),
         );
-        without = without-later s t ts U.rest (λ q. o.0 (rw (sym q) at U.there)) o U.without;
+        without = without_later s t ts U.rest (λ q. o.0 (rw (sym q) at U.there)) o U.without;
         there = inr U.there;
       }
 
@@ -190,7 +190,7 @@ module _ (S : ℕ) (w : List ℕ) (p s : ℕ) (room : 4 * p + 3 < length w) (l :
       there ne U = record {
         rest = t ∷ U.rest;
         leads = (c.0, rw (same t ne) U.leads);
-        without = without-later s t ts U.rest (λ q. o.0 (rw (sym q) at U.there)) o U.without;
+        without = without_later s t ts U.rest (λ q. o.0 (rw (sym q) at U.there)) o U.without;
         there = inr U.there;
       }
 
@@ -199,9 +199,9 @@ module _ (S : ℕ) (w : List ℕ) (p s : ℕ) (room : 4 * p + 3 < length w) (l :
       go (no ne) f = there ne (f (⊎_elim (λ e. absurd (ne (sym e))) (λ i. i) m))
 
 -- a state that waits no more, taken out
-chained-less : (S : ℕ) (w v : List ℕ) (h₀ h s : ℕ) → ((t : ℕ) → t ≢ s → get_or v (4 * t) 0 ≡ get_or w (4 * t) 0) → (WaitsAt v s → ⊥)
+chained_less : (S : ℕ) (w v : List ℕ) (h₀ h s : ℕ) → ((t : ℕ) → t ≢ s → get_or v (4 * t) 0 ≡ get_or w (4 * t) 0) → (WaitsAt v s → ⊥)
     → (C : Chained S w h₀) → Unlinked S v h s C.chain → Chained S v h
-chained-less S w v h₀ h s kinds not C U = record {
+chained_less S w v h₀ h s kinds not C U = record {
   chain = U.rest;
   leads = U.leads;
   once = U.without.once;
@@ -217,7 +217,7 @@ module _ (S : ℕ) (w : List ℕ) (h s : ℕ) (l : s < S) (room : 4 * S ≤ leng
 
   -- the chain is as it was
   on : Leads S v h C.chain
-  on = leads-same S w v h C.chain (λ t m. get_or-set_other w (4 * s) (4 * t + 3) 2 0 (omega arith)) C.leads
+  on = leads_same S w v h C.chain (λ t m. get_or-set_other w (4 * s) (4 * t + 3) 2 0 (omega arith)) C.leads
 
   -- the other kinds too
   kinds : (t : ℕ) → t ≢ s → get_or v (4 * t) 0 ≡ get_or w (4 * t) 0
@@ -228,20 +228,20 @@ module _ (S : ℕ) (w : List ℕ) (h s : ℕ) (l : s < S) (room : 4 * S ≤ leng
   settled q = omega (arith, get_or-set_same w (4 * s) 2 0 (omega arith))
 
   -- the first state, settled, is out of the chain from the one after it
-  pub chained-first-out : (b : ℕ) → S ≤ b → Precedes S w h b s → Chained S (set w (4 * s) 2) (after (set w (4 * s) 2) s)
-  chained-first-out b g p =
+  pub chained_first_out : (b : ℕ) → S ≤ b → Precedes S w h b s → Chained S (set w (4 * s) 2) (after (set w (4 * s) 2) s)
+  chained_first_out b g p =
       let e : h ≡ s = ⊎_elim (λ q. q.1) (λ q. absurd (omega (arith, q.0))) p in
-      chained-less S w v h (after v s) s kinds settled C (first_out S v h s C.chain l e C.once on)
+      chained_less S w v h (after v s) s kinds settled C (first_out S v h s C.chain l e C.once on)
 
   -- another one, where the state before it leads to the one after it
-  pub chained-later-out : (b : ℕ) → b < S → Precedes S w h b s
+  pub chained_later_out : (b : ℕ) → b < S → Precedes S w h b s
       → Chained S (set (set w (4 * s) 2) (4 * b + 3) (after (set w (4 * s) 2) s)) h
-  chained-later-out b lb p =
+  chained_later_out b lb p =
       let q : WaitsAt w b × (after w b ≡ s) = ⊎_elim (λ q. absurd (omega (arith, q.0))) (λ q. (q.1, q.2)) p in
-      chained-less S w (set v (4 * b + 3) (after v s)) h h s
+      chained_less S w (set v (4 * b + 3) (after v s)) h h s
       (λ t ne. get_or-set_other v (4 * b + 3) (4 * t) (after v s) 0 (omega arith) ∙ kinds t ne)
       (λ q. settled (sym (get_or-set_other v (4 * b + 3) (4 * s) (after v s) 0 (omega arith)) ∙ q))
       C
-      (later-out S v b s (omega (arith, length-set w (4 * s) 2)) l
+      (later_out S v b s (omega (arith, length-set w (4 * s) 2)) l
       (get_or-set_other w (4 * s) (4 * b + 3) 2 0 (omega arith) ∙ q.1)
       h C.chain C.once on (C.all b lb q.0))

@@ -7,9 +7,9 @@ use Rattle.std.proofs.Common.{◌∙◌, ap, arith, length-set, get_or-set_same,
 use Rattle.std.proofs.Math.Decide.{ℕ_discrete}
 use borrow.Author.Tests.{eq-eqb, ne_eqb, lt-ltb, le-ltb}
 use Rattle.theory.specs.Tests.{any, holds}
-use Rattle.theory.specs.Marks.{falls-to, marked, marked-is, marked-destination, marked-above}
+use Rattle.theory.specs.Marks.{falls_to, marked, marked_is, marked_destination, marked_above}
 use Rattle.records.specs.Format.{Volume}
-use Rattle.travel.specs.Network.{networkOf}
+use Rattle.travel.specs.Network.{network_of}
 
 -- 1 where a test holds, else 0
 abbrev pub flag : Bool → ℕ
@@ -18,17 +18,17 @@ flag false = 0
 
 -- junction u's mark, where d is the destination
 abbrev pub mark_of : Volume → ℕ → ℕ → ℕ
-mark_of vol d u = flag (marked (networkOf vol) d u)
+mark_of vol d u = flag (marked (network_of vol) d u)
 
 -- a mark that is 1 is a junction marked
-pub mark-one : (b : Bool) (k : ℕ) → k ≡ flag b → k ≡ 1 → b ≡ true
-mark-one true k p q = refl
-mark-one false k p q = absurd (omega arith)
+pub mark_one : (b : Bool) (k : ℕ) → k ≡ flag b → k ≡ 1 → b ≡ true
+mark_one true k p q = refl
+mark_one false k p q = absurd (omega arith)
 
 -- any other is not
-pub mark-other : (b : Bool) (k : ℕ) → k ≡ flag b → k ≢ 1 → b ≡ false
-mark-other true k p q = absurd (q p)
-mark-other false k p q = refl
+pub mark_other : (b : Bool) (k : ℕ) → k ≡ flag b → k ≢ 1 → b ≡ false
+mark_other true k p q = absurd (q p)
+mark_other false k p q = refl
 
 -- `marks` holds the marks of the n lowest junctions
 abbrev pub MarksBelow : Volume → ℕ → ℕ → List ℕ → Type 0
@@ -36,26 +36,26 @@ MarksBelow vol d n marks = (u : ℕ) → u < n → get_or marks u 0 ≡ mark_of 
 
 -- it holds them, and every other place is as it was in marks₀
 pub record Marks (vol : Volume) (d n : ℕ) (marks₀ marks : List ℕ) : Type 0 where
-  pub marks-at : MarksBelow vol d n marks
+  pub marks_at : MarksBelow vol d n marks
   pub kept : (u : ℕ) → n ≤ u → get_or marks u 0 ≡ get_or marks₀ u 0
   pub size : length marks ≡ length marks₀
 
 -- no junction yet
-pub marks-none : (vol : Volume) (d : ℕ) (marks : List ℕ) → Marks vol d 0 marks marks
-marks-none vol d marks = record { marks-at = λ u h. absurd (omega arith); kept = λ u h. refl; size = refl }
+pub marks_none : (vol : Volume) (d : ℕ) (marks : List ℕ) → Marks vol d 0 marks marks
+marks_none vol d marks = record { marks_at = λ u h. absurd (omega arith); kept = λ u h. refl; size = refl }
 
 -- one junction more
-pub marks-more : (vol : Volume) (d n k : ℕ) (marks₀ marks : List ℕ) → n < length marks → k ≡ mark_of vol d n → Marks vol d n marks₀ marks
+pub marks_more : (vol : Volume) (d n k : ℕ) (marks₀ marks : List ℕ) → n < length marks → k ≡ mark_of vol d n → Marks vol d n marks₀ marks
     → Marks vol d (n + 1) marks₀ (set marks n k)
-marks-more vol d n k marks₀ marks room is J = record {
-  marks-at = λ u h. at u h (ℕ_discrete u n);
+marks_more vol d n k marks₀ marks room is J = record {
+  marks_at = λ u h. at u h (ℕ_discrete u n);
   kept = λ u h. get_or-set_other marks n u k 0 (λ z. omega arith) ∙ J.kept u (omega arith);
   size = length-set marks n k ∙ J.size;
 }
   where
     at : (u : ℕ) → u < n + 1 → Dec (u ≡ n) → get_or (set marks n k) u 0 ≡ mark_of vol d u
     at u h (yes e) = rw e (get_or-set_same marks n k 0 room ∙ is)
-    at u h (no ne) = get_or-set_other marks n u k 0 ne ∙ J.marks-at u (omega arith)
+    at u h (no ne) = get_or-set_other marks n u k 0 ne ∙ J.marks_at u (omega arith)
 
 -- The mark of junction u
 
@@ -68,38 +68,38 @@ any_none (suc n) p h = rw (any_none n p (λ k l. h k (omega arith)), h n (omega 
 module _ (vol : Volume) (d u : ℕ) where
   -- edge e leads from u to a lower marked junction
   abbrev pub falls : ℕ → Bool
-  falls e = falls-to (networkOf vol) d (marked (networkOf vol) d) u e
+  falls e = falls_to (network_of vol) d (marked (network_of vol) d) u e
 
   -- an edge that does not begin at u does not
-  pub falls-away : (e : ℕ) → vol.edge-from e ≢ u → falls e ≡ false
-  unfolding networkOf
-  falls-away e n = rw (ne_eqb (vol.edge-from e) u n)
+  pub falls_away : (e : ℕ) → vol.edge_from e ≢ u → falls e ≡ false
+  unfolding network_of
+  falls_away e n = rw (ne_eqb (vol.edge_from e) u n)
 
   -- nor does one to a higher junction
-  pub falls-high : (e : ℕ) → vol.edge-from e ≡ u → u ≤ vol.edge_to e → falls e ≡ false
-  unfolding networkOf
-  falls-high e f h = rw (eq-eqb (vol.edge-from e) u f, le-ltb (vol.edge_to e) u h)
+  pub falls_high : (e : ℕ) → vol.edge_from e ≡ u → u ≤ vol.edge_to e → falls e ≡ false
+  unfolding network_of
+  falls_high e f h = rw (eq-eqb (vol.edge_from e) u f, le-ltb (vol.edge_to e) u h)
 
   -- nor one to a junction that is not marked
-  pub falls-unmarked : (e : ℕ) → vol.edge-from e ≡ u → vol.edge_to e < u → marked (networkOf vol) d (vol.edge_to e) ≡ false → falls e ≡ false
-  unfolding networkOf
-  falls-unmarked e f h m = rw (eq-eqb (vol.edge-from e) u f, lt-ltb (vol.edge_to e) u h, m)
+  pub falls_unmarked : (e : ℕ) → vol.edge_from e ≡ u → vol.edge_to e < u → marked (network_of vol) d (vol.edge_to e) ≡ false → falls e ≡ false
+  unfolding network_of
+  falls_unmarked e f h m = rw (eq-eqb (vol.edge_from e) u f, lt-ltb (vol.edge_to e) u h, m)
 
   -- the destination is marked
-  pub mark-destination : u ≡ d → 1 ≡ mark_of vol d u
-  mark-destination e =
-      let m : T (marked (networkOf vol) d u) = rw e (marked-destination (networkOf vol) d) in
-      sym (ap flag (holds (marked (networkOf vol) d u) m))
+  pub mark_destination : u ≡ d → 1 ≡ mark_of vol d u
+  mark_destination e =
+      let m : T (marked (network_of vol) d u) = rw e (marked_destination (network_of vol) d) in
+      sym (ap flag (holds (marked (network_of vol) d u) m))
 
   -- so is a junction with an edge to a lower marked one
-  pub mark-above : (e : ℕ) → e < vol.edges → vol.edge-from e ≡ u → vol.edge_to e < u → marked (networkOf vol) d (vol.edge_to e) ≡ true
+  pub mark_above : (e : ℕ) → e < vol.edges → vol.edge_from e ≡ u → vol.edge_to e < u → marked (network_of vol) d (vol.edge_to e) ≡ true
       → 1 ≡ mark_of vol d u
-  unfolding networkOf
-  mark-above e c f l m = sym (ap flag (holds (marked (networkOf vol) d u) (marked-above (networkOf vol) d u e c f l (rw m tt))))
+  unfolding network_of
+  mark_above e c f l m = sym (ap flag (holds (marked (network_of vol) d u) (marked_above (network_of vol) d u e c f l (rw m tt))))
 
   -- no other is
-  pub mark-missing : u ≢ d → ((e : ℕ) → e < vol.edges → falls e ≡ false) → 0 ≡ mark_of vol d u
-  unfolding networkOf
-  mark-missing n h =
-      let m : marked (networkOf vol) d u ≡ false = marked-is (networkOf vol) d u ∙ rw (ne_eqb u d n) (any_none vol.edges falls h) in
+  pub mark_missing : u ≢ d → ((e : ℕ) → e < vol.edges → falls e ≡ false) → 0 ≡ mark_of vol d u
+  unfolding network_of
+  mark_missing n h =
+      let m : marked (network_of vol) d u ≡ false = marked_is (network_of vol) d u ∙ rw (ne_eqb u d n) (any_none vol.edges falls h) in
       sym (ap flag m)

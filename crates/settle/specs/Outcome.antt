@@ -1,8 +1,8 @@
 -- What a run of the settling rule ends with, said in the theory's words.
 use Rattle.std.specs.Prelude.{ℕ, ◌+◌, ◌*◌, ◌^◌, ◌≤◌, ◌<◌, List, [], ◌≡◌, length, drop}
-use Rattle.theory.specs.Settling.{arc-of, UpperEnd, none, at_most, no_way, closed, open-from, trail-back, web, answer}
+use Rattle.theory.specs.Settling.{arc_of, UpperEnd, none, at_most, no_way, closed, open_from, trail_back, web, answer}
 use Rattle.records.specs.Format.{Volume}
-use Rattle.travel.specs.Network.{networkOf}
+use Rattle.travel.specs.Network.{network_of}
 use Rattle.settle.specs.Work.{labels}
 use Rattle.settle.specs.declared.Upper.{Upper}
 use Rattle.settle.specs.declared.Upper.TheVariants.{At, Missing}
@@ -10,18 +10,18 @@ use Rattle.settle.specs.declared.Outcome.{Outcome}
 use Rattle.settle.specs.declared.Outcome.TheVariants.{NoWay, Closed, Open}
 
 -- the upper end of a window, in the theory's words
-abbrev pub upperOf : Upper → UpperEnd
-upperOf (At a) = at_most a
-upperOf Missing = none
+abbrev pub upper_of : Upper → UpperEnd
+upper_of (At a) = at_most a
+upper_of Missing = none
 
 -- the outcome is the rule's answer to the question from u to d, departure x, budget b; where it is closed, the work area w holds the
 -- labels along which the theory's trail leads back
 abbrev pub Ends : Volume → ℕ → ℕ → ℕ → ℕ → List ℕ → Outcome → Type 0
-Ends vol u d x b w (NoWay n) = answer (networkOf vol) u d x b ≡ no_way n
+Ends vol u d x b w (NoWay n) = answer (network_of vol) u d x b ≡ no_way n
 Ends vol u d x b w (Closed a n) =
-    answer (networkOf vol) u d x b
-    ≡ closed a n (trail-back (web (networkOf vol) d) u n (labels (vol.junctions + vol.junctions) w) (vol.junctions + d) [])
-Ends vol u d x b w (Open l h n) = answer (networkOf vol) u d x b ≡ open-from l (upperOf h) n
+    answer (network_of vol) u d x b
+    ≡ closed a n (trail_back (web (network_of vol) d) u n (labels (vol.junctions + vol.junctions) w) (vol.junctions + d) [])
+Ends vol u d x b w (Open l h n) = answer (network_of vol) u d x b ≡ open_from l (upper_of h) n
 
 -- an end of a window is below 2 ^ 62
 abbrev pub UpperFits : Upper → Type 0
@@ -38,7 +38,7 @@ OutcomeFits (Open l h n) = (l < 2 ^ 62) × UpperFits h
 pub record Ran (vol : Volume) (u d x b : ℕ) (w₀ w : List ℕ) (r : Outcome) : Type 0 where
   pub ends : Ends vol u d x b w r
   -- every arc that the labels hold is the turn or an edge
-  pub arcs : (t : ℕ) → t < vol.junctions + vol.junctions → arc-of (labels (vol.junctions + vol.junctions) w t) ≤ vol.edges
+  pub arcs : (t : ℕ) → t < vol.junctions + vol.junctions → arc_of (labels (vol.junctions + vol.junctions) w t) ≤ vol.edges
   pub fits : OutcomeFits r
   pub kept : drop (8 * vol.junctions) w ≡ drop (8 * vol.junctions) w₀
-  pub length-kept : length w ≡ length w₀
+  pub length_kept : length w ≡ length w₀

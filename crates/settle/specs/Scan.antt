@@ -6,7 +6,7 @@ use Rattle.std.proofs.Math.Decide.{ℕ_discrete, dec_lt}
 use Rattle.block.specs.Choose.{choose, choose_yes, choose_no}
 use Rattle.theory.specs.Settling.{Table, Pick as Picking, nobody, picked, least}
 use Rattle.theory.specs.Labels.{Waits}
-use Rattle.theory.specs.Looks.{Picks, least-right}
+use Rattle.theory.specs.Looks.{Picks, least_right}
 use Rattle.settle.specs.Work.{label_of, labels, labels_in}
 use Rattle.settle.specs.Chain.{WaitsAt, after, Among, Leads, Chained, Precedes, few}
 use Rattle.settle.specs.declared.seen.Pick.{Pick}
@@ -23,43 +23,43 @@ PickLinked S w h Nobody = Unit {0}
 PickLinked S w h (Picked s a b) = Precedes S w h b s
 
 -- so a pick that names b is linked there
-pub pick-linked : (S : ℕ) (w : List ℕ) (h s a b : ℕ) (q : Pick) → q ≡ Picked s a b → PickLinked S w h q → Precedes S w h b s
-pick-linked S w h s a b q e l = rw e at l
+pub pick_linked : (S : ℕ) (w : List ℕ) (h s a b : ℕ) (q : Pick) → q ≡ Picked s a b → PickLinked S w h q → Precedes S w h b s
+pick_linked S w h s a b q e l = rw e at l
 
 -- One state more
 
 -- state t, which waits with a and comes after b, beside the pick so far: it is taken where its arrival is less, or as early and its number
 -- lower
-unfoldable pub sooner-of : Pick → ℕ → ℕ → ℕ → Pick
-sooner-of Nobody t a b = Picked t a b
-sooner-of (Picked s c p) t a b =
+unfoldable pub sooner_of : Pick → ℕ → ℕ → ℕ → Pick
+sooner_of Nobody t a b = Picked t a b
+sooner_of (Picked s c p) t a b =
     choose (ltb a c) (Picked t a b) (choose (eqb a c) (choose (ltb t s) (Picked t a b) (Picked s c p)) (Picked s c p))
 
 -- it is the first
-pub sooner-first : (t a b : ℕ) → sooner-of Nobody t a b ≡ Picked t a b
-unfolding sooner-of
-sooner-first t a b = refl
+pub sooner_first : (t a b : ℕ) → sooner_of Nobody t a b ≡ Picked t a b
+unfolding sooner_of
+sooner_first t a b = refl
 
 module _ (s c p t a b : ℕ) where
   -- its arrival is less
-  pub sooner-less : a < c → sooner-of (Picked s c p) t a b ≡ Picked t a b
-  unfolding sooner-of
-  sooner-less h = choose_yes _ _ (lt-ltb a c h)
+  pub sooner_less : a < c → sooner_of (Picked s c p) t a b ≡ Picked t a b
+  unfolding sooner_of
+  sooner_less h = choose_yes _ _ (lt-ltb a c h)
 
   -- as early, and its number lower
-  pub sooner-lower : a ≡ c → t < s → sooner-of (Picked s c p) t a b ≡ Picked t a b
-  unfolding sooner-of
-  sooner-lower e h = choose_no _ _ (le-ltb a c (omega arith)) ∙ choose_yes _ _ (eq-eqb a c e) ∙ choose_yes _ _ (lt-ltb t s h)
+  pub sooner_lower : a ≡ c → t < s → sooner_of (Picked s c p) t a b ≡ Picked t a b
+  unfolding sooner_of
+  sooner_lower e h = choose_no _ _ (le-ltb a c (omega arith)) ∙ choose_yes _ _ (eq-eqb a c e) ∙ choose_yes _ _ (lt-ltb t s h)
 
   -- as early, and its number higher
-  pub sooner-higher : a ≡ c → s ≤ t → sooner-of (Picked s c p) t a b ≡ Picked s c p
-  unfolding sooner-of
-  sooner-higher e h = choose_no _ _ (le-ltb a c (omega arith)) ∙ choose_yes _ _ (eq-eqb a c e) ∙ choose_no _ _ (le-ltb t s h)
+  pub sooner_higher : a ≡ c → s ≤ t → sooner_of (Picked s c p) t a b ≡ Picked s c p
+  unfolding sooner_of
+  sooner_higher e h = choose_no _ _ (le-ltb a c (omega arith)) ∙ choose_yes _ _ (eq-eqb a c e) ∙ choose_no _ _ (le-ltb t s h)
 
   -- its arrival is later
-  pub sooner-later : c ≤ a → a ≢ c → sooner-of (Picked s c p) t a b ≡ Picked s c p
-  unfolding sooner-of
-  sooner-later h ne = choose_no _ _ (le-ltb a c h) ∙ choose_no _ _ (ne_eqb a c ne)
+  pub sooner_later : c ≤ a → a ≢ c → sooner_of (Picked s c p) t a b ≡ Picked s c p
+  unfolding sooner_of
+  sooner_later h ne = choose_no _ _ (le-ltb a c h) ∙ choose_no _ _ (ne_eqb a c ne)
 
 -- The scan
 
@@ -81,9 +81,9 @@ PicksBut S w ts (Picked s a b) = PickedBut S w ts s a
 
 -- one of them more
 picks_more : (S : ℕ) (w : List ℕ) (t : ℕ) (ts : List ℕ) (b : ℕ) (q : Pick) → t < S → WaitsAt w t → PicksBut S w (t ∷ ts) q
-    → PicksBut S w ts (sooner-of q t (get_or w (4 * t + 1) 0) b)
+    → PicksBut S w ts (sooner_of q t (get_or w (4 * t + 1) 0) b)
 picks_more S w t ts b Nobody l wt P =
-    rw (sooner-first t (get_or w (4 * t + 1) 0) b)
+    rw (sooner_first t (get_or w (4 * t + 1) 0) b)
     (record {
       inside = l;
       waits = wt;
@@ -125,22 +125,22 @@ picks_more S w t ts b (Picked s c p) l wt P = go (dec_lt a c) (ℕ_discrete a c)
       others = λ u lu wu. ⊎_elim (⊎_elim (λ (e : u ≡ t). inr (rw e k)) inl) inr (P.others u lu wu);
     }
 
-    go : Dec (a < c) → Dec (a ≡ c) → Dec (t < s) → PicksBut S w ts (sooner-of (Picked s c p) t a b)
-    go (yes h) e k = rw (sooner-less s c p t a b h) (new (omega arith) (λ e. absurd (omega arith)))
-    go (no h) (yes e) (yes k) = rw (sooner-lower s c p t a b e k) (new (omega arith) (λ e. k))
-    go (no h) (yes e) (no k) = rw (sooner-higher s c p t a b e (omega arith)) (old (inr (sym e, omega arith)))
-    go (no h) (no ne) k = rw (sooner-later s c p t a b (omega arith) ne) (old (inl (omega arith)))
+    go : Dec (a < c) → Dec (a ≡ c) → Dec (t < s) → PicksBut S w ts (sooner_of (Picked s c p) t a b)
+    go (yes h) e k = rw (sooner_less s c p t a b h) (new (omega arith) (λ e. absurd (omega arith)))
+    go (no h) (yes e) (yes k) = rw (sooner_lower s c p t a b e k) (new (omega arith) (λ e. k))
+    go (no h) (yes e) (no k) = rw (sooner_higher s c p t a b e (omega arith)) (old (inr (sym e, omega arith)))
+    go (no h) (no ne) k = rw (sooner_later s c p t a b (omega arith) ne) (old (inl (omega arith)))
 
 -- and the pick stays linked
-linked-more : (S : ℕ) (w : List ℕ) (h t a b : ℕ) (q : Pick) → Precedes S w h b t → PickLinked S w h q → PickLinked S w h (sooner-of q t a b)
-linked-more S w h t a b Nobody l k = rw (sooner-first t a b) l
-linked-more S w h t a b (Picked s c p) l k = go (dec_lt a c) (ℕ_discrete a c) (dec_lt t s)
+linked_more : (S : ℕ) (w : List ℕ) (h t a b : ℕ) (q : Pick) → Precedes S w h b t → PickLinked S w h q → PickLinked S w h (sooner_of q t a b)
+linked_more S w h t a b Nobody l k = rw (sooner_first t a b) l
+linked_more S w h t a b (Picked s c p) l k = go (dec_lt a c) (ℕ_discrete a c) (dec_lt t s)
   where
-    go : Dec (a < c) → Dec (a ≡ c) → Dec (t < s) → PickLinked S w h (sooner-of (Picked s c p) t a b)
-    go (yes g) e i = rw (sooner-less s c p t a b g) l
-    go (no g) (yes e) (yes i) = rw (sooner-lower s c p t a b e i) l
-    go (no g) (yes e) (no i) = rw (sooner-higher s c p t a b e (omega arith)) k
-    go (no g) (no ne) i = rw (sooner-later s c p t a b (omega arith) ne) k
+    go : Dec (a < c) → Dec (a ≡ c) → Dec (t < s) → PickLinked S w h (sooner_of (Picked s c p) t a b)
+    go (yes g) e i = rw (sooner_less s c p t a b g) l
+    go (no g) (yes e) (yes i) = rw (sooner_lower s c p t a b e i) l
+    go (no g) (yes e) (no i) = rw (sooner_higher s c p t a b e (omega arith)) k
+    go (no g) (no ne) i = rw (sooner_later s c p t a b (omega arith) ne) k
 
 -- the chain from h is scanned up to t, which comes after b; q is the pick so far
 pub record Scanned (S : ℕ) (w : List ℕ) (h : ℕ) (q : Pick) (b t : ℕ) : Type 0 where
@@ -154,8 +154,8 @@ pub record Scanned (S : ℕ) (w : List ℕ) (h : ℕ) (q : Pick) (b t : ℕ) : T
   pub follows : Precedes S w h b t
 
 -- nothing is scanned yet
-pub scan-first : (S : ℕ) (w : List ℕ) (h : ℕ) → Chained S w h → Scanned S w h Nobody S h
-scan-first S w h C = record {
+pub scan_first : (S : ℕ) (w : List ℕ) (h : ℕ) → Chained S w h → Scanned S w h Nobody S h
+scan_first S w h C = record {
   rest = C.chain;
   leads = C.leads;
   fewer = few S C.chain C.once C.inside;
@@ -172,25 +172,25 @@ steps zero S w t = 0
 steps (suc n) S w t = choose (ltb t S) (suc (steps n S w (after w t))) 0
 
 -- as many as there are
-steps-are : (n S : ℕ) (w : List ℕ) (t : ℕ) (ts : List ℕ) → Leads S w t ts → ((u : ℕ) → Among u ts → u < S) → length ts ≤ n
+steps_are : (n S : ℕ) (w : List ℕ) (t : ℕ) (ts : List ℕ) → Leads S w t ts → ((u : ℕ) → Among u ts → u < S) → length ts ≤ n
     → steps n S w t ≡ length ts
 unfolding steps
-steps-are zero S w t [] c i l = refl
-steps-are zero S w t (u ∷ us) c i l = absurd (omega arith)
-steps-are (suc n) S w t [] c i l = choose_no _ _ (le-ltb t S (omega arith))
-steps-are (suc n) S w t (u ∷ us) c i l =
+steps_are zero S w t [] c i l = refl
+steps_are zero S w t (u ∷ us) c i l = absurd (omega arith)
+steps_are (suc n) S w t [] c i l = choose_no _ _ (le-ltb t S (omega arith))
+steps_are (suc n) S w t (u ∷ us) c i l =
     choose_yes _ _ (lt-ltb t S (omega (arith, c.0, i u (inl refl))))
-    ∙ ap suc (steps-are n S w (after w t) us (rw c.0 c.1) (λ v m. i v (inr m)) (omega arith))
+    ∙ ap suc (steps_are n S w (after w t) us (rw c.0 c.1) (λ v m. i v (inr m)) (omega arith))
 
 module _ (S : ℕ) (w : List ℕ) (h : ℕ) (q : Pick) (b t : ℕ) (C : Scanned S w h q b t) where
   -- a state is left
   module _ (l : t < S) where
     -- it is scanned
-    pub scan-more : Scanned S w h (sooner-of q t (get_or w (4 * t + 1) 0) b) t (after w t)
-    scan-more = go C.rest C.leads C.fewer C.inside C.waits C.picks
+    pub scan_more : Scanned S w h (sooner_of q t (get_or w (4 * t + 1) 0) b) t (after w t)
+    scan_more = go C.rest C.leads C.fewer C.inside C.waits C.picks
       where
         go : (ts : List ℕ) → Leads S w t ts → length ts ≤ S → ((u : ℕ) → Among u ts → u < S) → ((u : ℕ) → Among u ts → WaitsAt w u)
-            → PicksBut S w ts q → Scanned S w h (sooner-of q t (get_or w (4 * t + 1) 0) b) t (after w t)
+            → PicksBut S w ts q → Scanned S w h (sooner_of q t (get_or w (4 * t + 1) 0) b) t (after w t)
         go [] c f i ws p = absurd (omega arith)
         go (u ∷ us) c f i ws p =
             let wt : WaitsAt w t = rw c.0 (ws u (inl refl)) in
@@ -201,28 +201,28 @@ module _ (S : ℕ) (w : List ℕ) (h : ℕ) (q : Pick) (b t : ℕ) (C : Scanned 
               inside = λ x m. i x (inr m);
               waits = λ x m. ws x (inr m);
               picks = picks_more S w t us b q l wt (rw (sym c.0) at p);
-              linked = linked-more S w h t (get_or w (4 * t + 1) 0) b q C.follows C.linked;
+              linked = linked_more S w h t (get_or w (4 * t + 1) 0) b q C.follows C.linked;
               follows = inr (l, wt, refl);
             }
 
     -- and one less is left
-    pub scan-less : steps S S w (after w t) < steps S S w t
-    scan-less = go C.rest C.leads C.fewer C.inside
+    pub scan_less : steps S S w (after w t) < steps S S w t
+    scan_less = go C.rest C.leads C.fewer C.inside
       where
         go : (ts : List ℕ) → Leads S w t ts → length ts ≤ S → ((u : ℕ) → Among u ts → u < S) → steps S S w (after w t) < steps S S w t
         go [] c f i = absurd (omega arith)
         go (u ∷ us) c f i =
             omega (
               arith,
-              steps-are S S w t (u ∷ us) c i f,
-              steps-are S S w (after w t) us (rw c.0 c.1) (λ x m. i x (inr m)) (omega arith),
+              steps_are S S w t (u ∷ us) c i f,
+              steps_are S S w (after w t) us (rw c.0 c.1) (λ x m. i x (inr m)) (omega arith),
             )
 
 -- The least
 
 -- a state that waits has kind 1 and that arrival
-pub waits-at : (S : ℕ) (w : List ℕ) (t b : ℕ) → t < S → Waits (labels S w t) b → WaitsAt w t × (get_or w (4 * t + 1) 0 ≡ b)
-waits-at S w t b l q = go (get_or w (4 * t) 0) (rw (labels_in S w t l) at q)
+pub waits_at : (S : ℕ) (w : List ℕ) (t b : ℕ) → t < S → Waits (labels S w t) b → WaitsAt w t × (get_or w (4 * t + 1) 0 ≡ b)
+waits_at S w t b l q = go (get_or w (4 * t) 0) (rw (labels_in S w t l) at q)
   where
     go : (kind : ℕ) → Waits (label_of kind (get_or w (4 * t + 1) 0) (get_or w (4 * t + 2) 0)) b → (kind ≡ 1) × (get_or w (4 * t + 1) 0 ≡ b)
     go zero q = absurd q
@@ -230,35 +230,35 @@ waits-at S w t b l q = go (get_or w (4 * t) 0) (rw (labels_in S w t l) at q)
     go (suc (suc n)) q = absurd q
 
 -- and one of kind 1 waits
-at-waits : (S : ℕ) (w : List ℕ) (t b : ℕ) → t < S → WaitsAt w t → get_or w (4 * t + 1) 0 ≡ b → Waits (labels S w t) b
-at-waits S w t b l k q = rw (labels_in S w t l, k) q
+at_waits : (S : ℕ) (w : List ℕ) (t b : ℕ) → t < S → WaitsAt w t → get_or w (4 * t + 1) 0 ≡ b → Waits (labels S w t) b
+at_waits S w t b l k q = rw (labels_in S w t l, k) q
 
 -- a pick that says so of all is the theory's
-picks-right : (S : ℕ) (w : List ℕ) (q : Pick) → PicksBut S w [] q → Picks (labels S w) S (pick_of q)
-picks-right S w Nobody P = λ t b l q. P t l (waits-at S w t b l q).0
-picks-right S w (Picked s a p) P = record {
+picks_right : (S : ℕ) (w : List ℕ) (q : Pick) → PicksBut S w [] q → Picks (labels S w) S (pick_of q)
+picks_right S w Nobody P = λ t b l q. P t l (waits_at S w t b l q).0
+picks_right S w (Picked s a p) P = record {
   inside = P.inside;
-  waits = at-waits S w s a P.inside P.waits P.arrives;
-  least-of = λ t b l q.
-      let e = waits-at S w t b l q in ⊎_elim absurd (⊎_elim (λ k. omega (arith, e.1)) (λ k. omega (arith, k.0, e.1))) (P.others t l e.0);
+  waits = at_waits S w s a P.inside P.waits P.arrives;
+  least_of = λ t b l q.
+      let e = waits_at S w t b l q in ⊎_elim absurd (⊎_elim (λ k. omega (arith, e.1)) (λ k. omega (arith, k.0, e.1))) (P.others t l e.0);
   lowest = λ t b l q le.
-      let e = waits-at S w t b l q in ⊎_elim absurd (⊎_elim (λ k. absurd (omega (arith, e.1))) (λ k. k.1)) (P.others t l e.0);
+      let e = waits_at S w t b l q in ⊎_elim absurd (⊎_elim (λ k. absurd (omega (arith, e.1))) (λ k. k.1)) (P.others t l e.0);
 }
 
 -- there is one such pick
-picks-one : (L : Table) (n : ℕ) (p q : Picking) → Picks L n p → Picks L n q → p ≡ q
-picks-one L n nobody nobody P Q = refl
-picks-one L n nobody (picked s a) P Q = absurd (P s a Q.inside Q.waits)
-picks-one L n (picked s a) nobody P Q = absurd (Q s a P.inside P.waits)
-picks-one L n (picked s a) (picked t b) P Q =
-    let e : a ≡ b = omega (arith, P.least-of t b Q.inside Q.waits, Q.least-of s a P.inside P.waits) in
+picks_one : (L : Table) (n : ℕ) (p q : Picking) → Picks L n p → Picks L n q → p ≡ q
+picks_one L n nobody nobody P Q = refl
+picks_one L n nobody (picked s a) P Q = absurd (P s a Q.inside Q.waits)
+picks_one L n (picked s a) nobody P Q = absurd (Q s a P.inside P.waits)
+picks_one L n (picked s a) (picked t b) P Q =
+    let e : a ≡ b = omega (arith, P.least_of t b Q.inside Q.waits, Q.least_of s a P.inside P.waits) in
     let i : s ≡ t = omega (arith, P.lowest t b Q.inside Q.waits (omega arith), Q.lowest s a P.inside P.waits (omega arith)) in
     ap₂ picked i e
 
 -- at the end of the chain the pick is the least
-pub scan-ends : (S : ℕ) (w : List ℕ) (h : ℕ) (q : Pick) (b t : ℕ) → Scanned S w h q b t → S ≤ t → pick_of q ≡ least S (labels S w)
-scan-ends S w h q b t C l = go C.rest C.leads C.inside C.picks
+pub scan_ends : (S : ℕ) (w : List ℕ) (h : ℕ) (q : Pick) (b t : ℕ) → Scanned S w h q b t → S ≤ t → pick_of q ≡ least S (labels S w)
+scan_ends S w h q b t C l = go C.rest C.leads C.inside C.picks
   where
     go : (ts : List ℕ) → Leads S w t ts → ((u : ℕ) → Among u ts → u < S) → PicksBut S w ts q → pick_of q ≡ least S (labels S w)
-    go [] c i p = picks-one (labels S w) S (pick_of q) (least S (labels S w)) (picks-right S w q p) (least-right (labels S w) S)
+    go [] c i p = picks_one (labels S w) S (pick_of q) (least S (labels S w)) (picks_right S w q p) (least_right (labels S w) S)
     go (u ∷ us) c i p = absurd (omega (arith, c.0, i u (inl refl)))

@@ -32,9 +32,9 @@ unfolding labels
 labels_in S w t h = rw (lt-ltb t S h)
 
 -- past the last state there is nothing
-pub labels-out : (S : ℕ) (w : List ℕ) (t : ℕ) → S ≤ t → labels S w t ≡ nothing
+pub labels_out : (S : ℕ) (w : List ℕ) (t : ℕ) → S ≤ t → labels S w t ≡ nothing
 unfolding labels
-labels-out S w t h = rw (le-ltb t S h)
+labels_out S w t h = rw (le-ltb t S h)
 
 -- What is written
 
@@ -67,12 +67,12 @@ abbrev pub cleared : List ℕ → ℕ → List ℕ
 cleared w n = replicate n 0 ++ drop n w
 
 -- each of them reads as zero
-pub cleared-zero : (n : ℕ) (w : List ℕ) (i : ℕ) → i < n → get_or (cleared w n) i 0 ≡ 0
-cleared-zero n w i l = get_or-append (replicate n 0) (drop n w) 0 i (rw length-replicate l) ∙ get_or-replicate n i 0 0 l
+pub cleared_zero : (n : ℕ) (w : List ℕ) (i : ℕ) → i < n → get_or (cleared w n) i 0 ≡ 0
+cleared_zero n w i l = get_or-append (replicate n 0) (drop n w) 0 i (rw length-replicate l) ∙ get_or-replicate n i 0 0 l
 
 -- in a cleared work area there is nothing
-pub holds-cleared : (S : ℕ) (w : List ℕ) → 4 * S ≤ length w → Holds S w (cleared w (4 * S)) (λ t. nothing)
-holds-cleared S w h = record {
+pub holds_cleared : (S : ℕ) (w : List ℕ) → 4 * S ≤ length w → Holds S w (cleared w (4 * S)) (λ t. nothing)
+holds_cleared S w h = record {
   table = fun_ext (λ t. go t (dec_lt t S));
   tail = drop_at (replicate (4 * S) 0) (drop (4 * S) w) (4 * S) (length-replicate (4 * S) 0);
   size = simp (length-append, length-replicate, length-drop) (omega arith);
@@ -82,8 +82,8 @@ holds-cleared S w h = record {
     go t (yes l) =
         labels_in S (cleared w (4 * S)) t l
         ∙ ap (λ (k : ℕ). label_of k (get_or (cleared w (4 * S)) (4 * t + 1) 0) (get_or (cleared w (4 * S)) (4 * t + 2) 0))
-        (cleared-zero (4 * S) w (4 * t) (omega arith))
-    go t (no g) = labels-out S (cleared w (4 * S)) t (omega arith)
+        (cleared_zero (4 * S) w (4 * t) (omega arith))
+    go t (no g) = labels_out S (cleared w (4 * S)) t (omega arith)
 
 -- A store
 
@@ -93,21 +93,21 @@ store w s kind a k = set (set (set w (4 * s) kind) (4 * s + 1) a) (4 * s + 2) k
 
 module _ (w : List ℕ) (s kind a k : ℕ) (l : 4 * s + 4 ≤ length w) where
   -- the kind that is read there
-  pub at-kind : get_or (store w s kind a k) (4 * s) 0 ≡ kind
-  at-kind =
+  pub at_kind : get_or (store w s kind a k) (4 * s) 0 ≡ kind
+  at_kind =
       get_or-set_other (set (set w (4 * s) kind) (4 * s + 1) a) (4 * s + 2) (4 * s) k 0 (omega arith)
       ∙ get_or-set_other (set w (4 * s) kind) (4 * s + 1) (4 * s) a 0 (omega arith)
       ∙ get_or-set_same w (4 * s) kind 0 (omega arith)
 
   -- the arrival
-  at-arrival : get_or (store w s kind a k) (4 * s + 1) 0 ≡ a
-  at-arrival =
+  at_arrival : get_or (store w s kind a k) (4 * s + 1) 0 ≡ a
+  at_arrival =
       get_or-set_other (set (set w (4 * s) kind) (4 * s + 1) a) (4 * s + 2) (4 * s + 1) k 0 (omega arith)
       ∙ get_or-set_same (set w (4 * s) kind) (4 * s + 1) a 0 (omega (arith, length-set w (4 * s) kind))
 
   -- the arc
-  at-arc : get_or (store w s kind a k) (4 * s + 2) 0 ≡ k
-  at-arc =
+  at_arc : get_or (store w s kind a k) (4 * s + 2) 0 ≡ k
+  at_arc =
       get_or-set_same (set (set w (4 * s) kind) (4 * s + 1) a) (4 * s + 2) k 0
       (omega (arith, length-set w (4 * s) kind, length-set (set w (4 * s) kind) (4 * s + 1) a))
 
@@ -120,11 +120,11 @@ module _ (w : List ℕ) (s kind a k : ℕ) (l : 4 * s + 4 ≤ length w) where
 
   -- the label that is read at the state that is stored
   label_same : label_at (store w s kind a k) s ≡ label_of kind a k
-  label_same = rw (at-kind, at-arrival, at-arc)
+  label_same = rw (at_kind, at_arrival, at_arc)
 
   -- and at any other
-  label-other : (t : ℕ) → t ≢ s → label_at (store w s kind a k) t ≡ label_at w t
-  label-other t ne =
+  label_other : (t : ℕ) → t ≢ s → label_at (store w s kind a k) t ≡ label_at w t
+  label_other t ne =
       rw (
         elsewhere (4 * t) (omega arith) (omega arith) (omega arith),
         elsewhere (4 * t + 1) (omega arith) (omega arith) (omega arith),
@@ -132,9 +132,9 @@ module _ (w : List ℕ) (s kind a k : ℕ) (l : 4 * s + 4 ≤ length w) where
       )
 
 -- a store of the three numbers of a state is a put
-pub labels-store : (S : ℕ) (w : List ℕ) (s kind a k : ℕ) → s < S → 4 * S ≤ length w
+pub labels_store : (S : ℕ) (w : List ℕ) (s kind a k : ℕ) → s < S → 4 * S ≤ length w
     → labels S (store w s kind a k) ≡ put (labels S w) s (label_of kind a k)
-labels-store S w s kind a k h l = fun_ext (λ t. go t (ℕ_discrete t s) (dec_lt t S))
+labels_store S w s kind a k h l = fun_ext (λ t. go t (ℕ_discrete t s) (dec_lt t S))
   where
     go : (t : ℕ) → Dec (t ≡ s) → Dec (t < S) → labels S (store w s kind a k) t ≡ put (labels S w) s (label_of kind a k) t
     go t (yes e) d =
@@ -144,19 +144,19 @@ labels-store S w s kind a k h l = fun_ext (λ t. go t (ℕ_discrete t s) (dec_lt
         ∙ sym (put_same (labels S w) s (label_of kind a k)))
     go t (no ne) (yes i) =
         labels_in S (store w s kind a k) t i
-        ∙ label-other w s kind a k (omega arith) t ne
+        ∙ label_other w s kind a k (omega arith) t ne
         ∙ sym (labels_in S w t i)
         ∙ sym (put_other (labels S w) s (label_of kind a k) t ne)
     go t (no ne) (no o) =
-        labels-out S (store w s kind a k) t (omega arith)
-        ∙ sym (labels-out S w t (omega arith))
+        labels_out S (store w s kind a k) t (omega arith)
+        ∙ sym (labels_out S w t (omega arith))
         ∙ sym (put_other (labels S w) s (label_of kind a k) t ne)
 
 -- and leaves what stands after the states
-pub holds-store : (S : ℕ) (w : List ℕ) (s kind a k : ℕ) → s < S → 4 * S ≤ length w
+pub holds_store : (S : ℕ) (w : List ℕ) (s kind a k : ℕ) → s < S → 4 * S ≤ length w
     → Holds S w (store w s kind a k) (put (labels S w) s (label_of kind a k))
-holds-store S w s kind a k h l = record {
-  table = labels-store S w s kind a k h l;
+holds_store S w s kind a k h l = record {
+  table = labels_store S w s kind a k h l;
   tail =
       drop-set-lt (4 * S) (set (set w (4 * s) kind) (4 * s + 1) a) (4 * s + 2) k (omega arith)
       ∙ drop-set-lt (4 * S) (set w (4 * s) kind) (4 * s + 1) a (omega arith)
@@ -167,8 +167,8 @@ holds-store S w s kind a k h l = record {
 -- A store to the number that is no part of a label
 
 -- leaves every label and what stands after the states
-pub holds-spare : (S : ℕ) (w : List ℕ) (s x : ℕ) → s < S → Holds S w (set w (4 * s + 3) x) (labels S w)
-holds-spare S w s x h = record {
+pub holds_spare : (S : ℕ) (w : List ℕ) (s x : ℕ) → s < S → Holds S w (set w (4 * s + 3) x) (labels S w)
+holds_spare S w s x h = record {
   table = fun_ext (λ t. go t (dec_lt t S));
   tail = drop-set-lt (4 * S) w (4 * s + 3) x (omega arith);
   size = simp length-set;
@@ -183,4 +183,4 @@ holds-spare S w s x h = record {
           get_or-set_other w (4 * s + 3) (4 * t + 2) x 0 (omega arith),
         )
         (sym (labels_in S w t l))
-    go t (no g) = labels-out S (set w (4 * s + 3) x) t (omega arith) ∙ sym (labels-out S w t (omega arith))
+    go t (no g) = labels_out S (set w (4 * s + 3) x) t (omega arith) ∙ sym (labels_out S w t (omega arith))

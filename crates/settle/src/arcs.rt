@@ -1,12 +1,12 @@
 // The offers of a settled state.
 ghost use Rattle.std.specs.Prelude.{◌≡◌, ℕ, suc, ◌+◌, ◌*◌, ◌^◌, ◌≤◌, ◌<◌, length};
 ghost use Rattle.theory.specs.Settling.{offer, relax, settle};
-ghost use Rattle.records.specs.Format.{volumeOf, Counted};
+ghost use Rattle.records.specs.Format.{volume_of, Counted};
 ghost use Rattle.records.specs.Index.{Linked};
 ghost use Rattle.travel.specs.Digest.{Digest};
 ghost use Rattle.settle.specs.Chain.{WaitsAt, Chained, Precedes, Rechained};
 ghost use Rattle.settle.specs.Marked.{MarksBelow};
-ghost use Rattle.settle.specs.Arcs.{Ready, Does, place_of, webOf, leadOf, LeadsBelow};
+ghost use Rattle.settle.specs.Arcs.{Ready, Does, place_of, web_of, lead_of, LeadsBelow};
 ghost use Rattle.settle.specs.Walk.{turned};
 
 use crate::labels::{SETTLED, STATE, offer_to, take_out};
@@ -33,9 +33,9 @@ fn place(n: usize, s: usize) -> usize
 // Where edge e leads state s: a climbing state to higher rank, a descending one to a lower marked junction.
 fn lead_of(v: &[u8], t: Tables, n: usize, marks: &[u8], s: usize, e: usize) -> Lead
     requires ready { Ready v.now t n marks.now s }
-    requires e_bound { (e < (volumeOf v.now).edges) × ((volumeOf v.now).edge-from e ≡ place_of n s) }
+    requires e_bound { (e < (volume_of v.now).edges) × ((volume_of v.now).edge_from e ≡ place_of n s) }
     ensures leads_below { LeadsBelow (n + n) result }
-    ensures by_index { (d : ℕ) → MarksBelow (volumeOf v.now) d (volumeOf v.now).junctions marks.now → result ≡ leadOf (webOf (volumeOf v.now) d) s (suc e) }
+    ensures by_index { (d : ℕ) → MarksBelow (volume_of v.now) d (volume_of v.now).junctions marks.now → result ≡ lead_of (web_of (volume_of v.now) d) s (suc e) }
 {
     let w = edge_to(v, t, e);
     if s < n {
@@ -67,10 +67,10 @@ fn offer_edge(
     work: &mut [u64],
 ) -> usize
     requires ready { Ready v.now t n marks.now s }
-    requires digest { Digest (volumeOf v.now) digest.now }
-    requires e_bound { (e < (volumeOf v.now).edges) × ((volumeOf v.now).edge-from e ≡ place_of n s) }
+    requires digest { Digest (volume_of v.now) digest.now }
+    requires e_bound { (e < (volume_of v.now).edges) × ((volume_of v.now).edge_from e ≡ place_of n s) }
     requires arrival_bound { (arrival < 2 ^ 62) × (8 * n ≤ length work.old) }
-    ensures does { Does (volumeOf v.now) marks.now work.old work.new (λ W. offer W s arrival (suc e)) }
+    ensures does { Does (volume_of v.now) marks.now work.old work.new (λ W. offer W s arrival (suc e)) }
     ensures rechained { Rechained (n + n) work.old head work.new result }
 {
     let Lead::To(to) = lead_of(v, t, n, marks, s, e) else {
@@ -120,11 +120,11 @@ fn offer_arcs(
     work: &mut [u64],
 ) -> usize
     requires ready { Ready v.now t c.junctions marks.now s }
-    requires digest { Digest (volumeOf v.now) digest.now }
-    requires counted { Counted (volumeOf v.now) c }
-    requires linked { Linked (volumeOf v.now) first.now next.now }
+    requires digest { Digest (volume_of v.now) digest.now }
+    requires counted { Counted (volume_of v.now) c }
+    requires linked { Linked (volume_of v.now) first.now next.now }
     requires arrival_bound { (arrival < 2 ^ 62) × (8 * c.junctions ≤ length work.old) }
-    ensures does { Does (volumeOf v.now) marks.now work.old work.new (λ W. relax W s arrival W.arcs) }
+    ensures does { Does (volume_of v.now) marks.now work.old work.new (λ W. relax W s arrival W.arcs) }
     ensures rechained { Rechained (c.junctions + c.junctions) work.old head work.new result }
 {
     let n = c.junctions;
@@ -155,14 +155,14 @@ pub fn settle_state(
     work: &mut [u64],
 ) -> usize
     requires ready { Ready v.now t c.junctions marks.now s }
-    requires digest { Digest (volumeOf v.now) digest.now }
-    requires counted { Counted (volumeOf v.now) c }
-    requires linked { Linked (volumeOf v.now) first.now next.now }
+    requires digest { Digest (volume_of v.now) digest.now }
+    requires counted { Counted (volume_of v.now) c }
+    requires linked { Linked (volume_of v.now) first.now next.now }
     requires arrival_bound { (arrival < 2 ^ 62) × (8 * c.junctions ≤ length work.old) }
     requires waits_at { WaitsAt work.old s }
     requires chained { Chained (c.junctions + c.junctions) work.old head }
     requires precedes { Precedes (c.junctions + c.junctions) work.old head before s }
-    ensures does { Does (volumeOf v.now) marks.now work.old work.new (λ W. settle W s arrival) }
+    ensures does { Does (volume_of v.now) marks.now work.old work.new (λ W. settle W s arrival) }
     ensures chained_2 { Chained (c.junctions + c.junctions) work.new result }
 {
     let n = c.junctions;

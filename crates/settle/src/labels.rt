@@ -1,10 +1,10 @@
 // Labels in the work area, and the chain of the states that wait: the last number of a state leads to the next one, and the number of
 // states ends the chain.
 ghost use Rattle.std.specs.Prelude.{◌≡◌, ◌+◌, ◌*◌, ◌≤◌, ◌<◌, length};
-ghost use Rattle.theory.specs.Settling.{put, settle-label};
+ghost use Rattle.theory.specs.Settling.{put, settle_label};
 ghost use Rattle.settle.specs.Work.{store, labels, Holds};
 ghost use Rattle.settle.specs.Chain.{WaitsAt, Chained, Precedes};
-ghost use Rattle.settle.specs.Offered.{offerTo, headTo};
+ghost use Rattle.settle.specs.Offered.{offer_to, head_to};
 
 // The numbers of a state.
 pub const STATE: usize = 4;
@@ -29,8 +29,8 @@ pub fn put_label(work: &mut [u64], s: usize, kind: u64, arrival: u64, arc: u64)
 // state that begins to wait goes in front of the chain. Returns the first of the chain.
 pub fn offer_to(work: &mut [u64], head: usize, s: usize, arrival: u64, arc: u64) -> usize
     requires { 4 * s + 4 ≤ length work.old }
-    ensures work_after { work.new ≡ offerTo work.old head s arrival arc }
-    ensures value { result ≡ headTo work.old head s }
+    ensures work_after { work.new ≡ offer_to work.old head s arrival arc }
+    ensures value { result ≡ head_to work.old head s }
 {
     let at = STATE * s;
     let kind = work[at];
@@ -54,7 +54,7 @@ pub fn take_out(work: &mut [u64], states: usize, head: usize, s: usize, before: 
     requires waits_at { WaitsAt work.old s }
     requires chained { Chained states work.old head }
     requires precedes { Precedes states work.old head before s }
-    ensures holds { Holds states work.old work.new (put (labels states work.old) s (settle-label (labels states work.old s))) }
+    ensures holds { Holds states work.old work.new (put (labels states work.old) s (settle_label (labels states work.old s))) }
     ensures chained_2 { Chained states work.new result }
 {
     let at = STATE * s;

@@ -2,7 +2,7 @@
 // leaves the labels in the work area for whoever follows the trail back. The path, the refusals and the cleared work area after a
 // search are the crate `search`'s.
 ghost use Rattle.std.specs.Prelude.{◌≡◌, ◌+◌, ◌≤◌, ◌<◌, length};
-ghost use Rattle.records.specs.Format.{volumeOf, Counted, Few, Laid};
+ghost use Rattle.records.specs.Format.{volume_of, Counted, Few, Laid};
 ghost use Rattle.records.specs.Index.{Linked};
 ghost use Rattle.travel.specs.Digest.{Digest};
 ghost use Rattle.volume.specs.Sound.{Sound};
@@ -66,12 +66,12 @@ fn units(
     budget: u64,
     work: &mut [u64],
 ) -> Outcome
-    requires laid { (Laid v.now t) × Counted (volumeOf v.now) c × Sound (volumeOf v.now) }
-    requires digest { Digest (volumeOf v.now) digest.now }
-    requires linked { Linked (volumeOf v.now) first.now next.now }
-    requires junctions_in_bounds { (c.junctions ≤ length marks.now) × MarksBelow (volumeOf v.now) to (volumeOf v.now).junctions marks.now }
-    requires question { Question (volumeOf v.now) from to departure budget work.old }
-    ensures { Ran (volumeOf v.now) from to departure budget work.old work.new result }
+    requires laid { (Laid v.now t) × Counted (volume_of v.now) c × Sound (volume_of v.now) }
+    requires digest { Digest (volume_of v.now) digest.now }
+    requires linked { Linked (volume_of v.now) first.now next.now }
+    requires junctions_in_bounds { (c.junctions ≤ length marks.now) × MarksBelow (volume_of v.now) to (volume_of v.now).junctions marks.now }
+    requires question { Question (volume_of v.now) from to departure budget work.old }
+    ensures { Ran (volume_of v.now) from to departure budget work.old work.new result }
 {
     let n = c.junctions;
     let states = n + n;
@@ -111,12 +111,12 @@ fn run_indexed(
     work: &mut [u64],
 ) -> Outcome
     requires laid { Laid v.now t }
-    requires counted { Counted (volumeOf v.now) c }
+    requires counted { Counted (volume_of v.now) c }
     requires few { Few c }
-    requires sound { Sound (volumeOf v.now) }
+    requires sound { Sound (volume_of v.now) }
     requires edges_in_bounds { (c.edges ≤ length next.old) × (c.edges + c.roads < length digest.old) }
-    requires question { Question (volumeOf v.now) from to departure budget work.old }
-    ensures { Ran (volumeOf v.now) from to departure budget work.old work.new result }
+    requires question { Question (volume_of v.now) from to departure budget work.old }
+    ensures { Ran (volume_of v.now) from to departure budget work.old work.new result }
 {
     let mut first = [0u16; 1024];
     let mut marks = [0u8; 1024];
@@ -141,11 +141,11 @@ pub fn run(
     work: &mut [u64],
 ) -> Outcome
     requires laid { Laid v.now t }
-    requires counted { Counted (volumeOf v.now) c }
+    requires counted { Counted (volume_of v.now) c }
     requires few { Few c }
-    requires sound { Sound (volumeOf v.now) }
-    requires question { Question (volumeOf v.now) from to departure budget work.old }
-    ensures { Ran (volumeOf v.now) from to departure budget work.old work.new result }
+    requires sound { Sound (volume_of v.now) }
+    requires question { Question (volume_of v.now) from to departure budget work.old }
+    ensures { Ran (volume_of v.now) from to departure budget work.old work.new result }
 {
     if c.edges + c.roads < SHORT {
         let mut next = [0u16; SHORT];

@@ -1,7 +1,7 @@
 // Marks: document 01, "a junction is marked if it is the destination or has an edge to a marked junction of lower rank". An edge to
 // lower rank leads to a junction whose mark is known already, since junctions go in rising order.
 ghost use Rattle.std.specs.Prelude.{◌≡◌, ◌≤◌, ◌<◌, length};
-ghost use Rattle.records.specs.Format.{volumeOf, Counted, Laid};
+ghost use Rattle.records.specs.Format.{volume_of, Counted, Laid};
 ghost use Rattle.records.specs.Index.{Linked};
 ghost use Rattle.settle.specs.Marked.{mark_of, MarksBelow, Marks};
 
@@ -19,10 +19,10 @@ fn mark_of(
     marks: &[u8],
 ) -> u8
     requires laid { Laid v.now t }
-    requires linked { Linked (volumeOf v.now) first.now next.now }
-    requires edges_value { (edges ≡ (volumeOf v.now).edges) × (u < (volumeOf v.now).junctions) × (u < length marks.now) }
-    requires marks_below { MarksBelow (volumeOf v.now) to u marks.now }
-    ensures { result ≡ mark_of (volumeOf v.now) to u }
+    requires linked { Linked (volume_of v.now) first.now next.now }
+    requires edges_value { (edges ≡ (volume_of v.now).edges) × (u < (volume_of v.now).junctions) × (u < length marks.now) }
+    requires marks_below { MarksBelow (volume_of v.now) to u marks.now }
+    ensures { result ≡ mark_of (volume_of v.now) to u }
 {
     if u == to {
         return 1;
@@ -51,10 +51,10 @@ pub fn mark(
     marks: &mut [u8],
 )
     requires laid { Laid v.now t }
-    requires counted { Counted (volumeOf v.now) c }
-    requires linked { Linked (volumeOf v.now) first.now next.now }
+    requires counted { Counted (volume_of v.now) c }
+    requires linked { Linked (volume_of v.now) first.now next.now }
     requires junctions_in_bounds { c.junctions ≤ length marks.old }
-    ensures { Marks (volumeOf v.now) to (volumeOf v.now).junctions marks.old marks.new }
+    ensures { Marks (volume_of v.now) to (volume_of v.now).junctions marks.old marks.new }
 {
     let n = c.junctions;
     let edges = c.edges;

@@ -1,11 +1,11 @@
 // The tests before each unit: document 01, "Before each unit, budget 0 included".
 ghost use Rattle.std.specs.Prelude.{◌≡◌, ◌+◌, ◌*◌, ◌≤◌, ◌<◌, length};
-ghost use Rattle.theory.specs.Settling.{least, view-of, upper-end};
+ghost use Rattle.theory.specs.Settling.{least, view_from, upper_end};
 ghost use Rattle.settle.specs.Work.{label_at, labels};
 ghost use Rattle.settle.specs.Chain.{Chained};
-ghost use Rattle.settle.specs.Scan.{pick_of, PickLinked, sooner-of};
+ghost use Rattle.settle.specs.Scan.{pick_of, PickLinked, sooner_of};
 ghost use Rattle.settle.specs.Seen.{view_of, ViewLinked};
-ghost use Rattle.settle.specs.Outcome.{upperOf};
+ghost use Rattle.settle.specs.Outcome.{upper_of};
 
 use crate::Upper;
 use crate::labels::{STATE, WAITING};
@@ -29,7 +29,7 @@ pub enum View {
 // The pick so far, with state t beside it, which waits with `arrival` and comes after `before`: it is taken where its arrival is less, or
 // as early and its number lower.
 fn sooner(best: Pick, t: usize, arrival: u64, before: usize) -> Pick
-    ensures { result ≡ sooner-of best t arrival before }
+    ensures { result ≡ sooner_of best t arrival before }
 {
     let Pick::Picked(s, least, link) = best else {
         return Pick::Picked(t, arrival, before);
@@ -66,7 +66,7 @@ pub fn least_waiting(work: &[u64], states: usize, head: usize) -> Pick
 // What is seen, where `home` is the descending destination.
 pub fn see(work: &[u64], states: usize, head: usize, home: usize) -> View
     requires { (4 * states ≤ length work.now) × (home < states) × Chained states work.now head }
-    ensures result_value { view_of result ≡ view-of (labels states work.now home) (least states (labels states work.now)) }
+    ensures result_value { view_of result ≡ view_from (labels states work.now home) (least states (labels states work.now)) }
     ensures view_linked { ViewLinked states work.now head result }
 {
     let best = least_waiting(work, states, head);
@@ -85,7 +85,7 @@ pub fn see(work: &[u64], states: usize, head: usize, home: usize) -> View
 // The arrival that waits at state s, or none.
 pub fn upper(work: &[u64], s: usize) -> Upper
     requires { 4 * s + 4 ≤ length work.now }
-    ensures { upperOf result ≡ upper-end (label_at work.now s) }
+    ensures { upper_of result ≡ upper_end (label_at work.now s) }
 {
     let at = STATE * s;
     if work[at] == WAITING {

@@ -2,9 +2,9 @@
 use Rattle.std.specs.Prelude.{ℕ, ◌≤◌, ◌≡◌, refl, List, length, drop}
 use Rattle.std.proofs.Common.{ap, sym, ◌∙◌, arith, length-append}
 use Rattle.theory.specs.Settling as Rule
-use Rattle.records.specs.Format.{volumeOf}
-use Rattle.search.specs.Answer.{Searched, pathAfter, pathTold, ruled}
-use Rattle.search.specs.Path.{pathOf}
+use Rattle.records.specs.Format.{volume_of}
+use Rattle.search.specs.Answer.{Searched, path_after, path_told, ruled}
+use Rattle.search.specs.Path.{path_of}
 use Rattle.search.specs.Tells.{given}
 use Rattle.search.specs.declared.Answer.{Answer}
 use Rattle.search.specs.declared.Answer.TheVariants.{Closed}
@@ -14,12 +14,12 @@ abbrev pub RoadsFit : Answer → List ℕ → Type 0
 RoadsFit r p = (a n k : ℕ) → r ≡ Closed a n k → k ≤ length p
 
 -- so it is after every search
-pub roads-fit : {v : List ℕ} {from to x b : ℕ} {work path w p : List ℕ} {r : Answer} → Searched v from to x b work path r w p → RoadsFit r p
-roads-fit {v} {from} {to} {x} {b} {work} {path} {w} {p} {r} s a n k e =
-    let vol = volumeOf v in
+pub roads_fit : {v : List ℕ} {from to x b : ℕ} {work path w p : List ℕ} {r : Answer} → Searched v from to x b work path r w p → RoadsFit r p
+roads_fit {v} {from} {to} {x} {b} {work} {path} {w} {p} {r} s a n k e =
+    let vol = volume_of v in
     let g = given v from to x b (length work) (length path) (Closed a n k) (sym e ∙ s.answers) refl in
-    let roads = pathOf vol g.tells.0 x in
+    let roads = path_of vol g.tells.0 x in
     let is =
-    s.writes ∙ ap (λ (r : Answer). pathAfter r (pathTold vol x (ruled vol from to x b)) path) e
-    ∙ ap (λ (q : Rule.Answer). pathAfter (Closed a n k) (pathTold vol x q) path) g.tells.1 in
+    s.writes ∙ ap (λ (r : Answer). path_after r (path_told vol x (ruled vol from to x b)) path) e
+    ∙ ap (λ (q : Rule.Answer). path_after (Closed a n k) (path_told vol x q) path) g.tells.1 in
     omega (arith, g.tells.2, ap length is, length-append roads (drop (length roads) path))

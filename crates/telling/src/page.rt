@@ -1,7 +1,7 @@
 // A volume from its content words, which stand in a text as numbers: `-` is the empty middle, and all between two numbers is a comment.
 ghost use Rattle.std.specs.Prelude.{◌≡◌, ◌%◌, ◌<◌, length};
 ghost use Rattle.block.specs.Seal.{sealed};
-ghost use Rattle.telling.specs.Page.{putContent, putRow};
+ghost use Rattle.telling.specs.Page.{put_content, put_row};
 
 use block::{put_word, seal};
 
@@ -38,7 +38,7 @@ fn grown(x: u32, c: u8) -> u32 {
 
 // Writes x as content word w, of the first million; past the end nothing.
 pub fn put(v: &mut [u8], w: usize, x: u32)
-    ensures { v.new ≡ putContent v.old (w % 1000000) x }
+    ensures { v.new ≡ put_content v.old (w % 1000000) x }
 {
     let at = w % 1000000;
     let i = at + 2 * (at / 126);
@@ -50,7 +50,7 @@ pub fn put(v: &mut [u8], w: usize, x: u32)
 // Writes the numbers of a row as content words from word w on, of the first million; past the end nothing.
 pub fn put_row(v: &mut [u8], w: usize, row: &[u32])
     requires { w < 1000000 }
-    ensures { v.new ≡ putRow v.old w row.now (length row.now) }
+    ensures { v.new ≡ put_row v.old w row.now (length row.now) }
 {
     let mut i: usize = 0;
     while i < row.len() {

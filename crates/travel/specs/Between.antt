@@ -10,10 +10,10 @@ use Rattle.travel.specs.Road.{between}
 
 -- a larger number has no smaller quotient
 div_mono : (a b w : ℕ) → 0 < w → a ≤ b → a / w ≤ b / w
-div_mono a b w h l = (le-div_iff_mul-le h).1 (omega (arith, (le-div_iff_mul-le h).0 (le-self (a / w))))
+div_mono a b w h l = (le-div_iff_mul-le h).1 (omega (arith, (le-div_iff_mul-le h).0 (le_self (a / w))))
   where
-    le-self : (q : ℕ) → q ≤ q
-    le-self q = omega arith
+    le_self : (q : ℕ) → q ≤ q
+    le_self q = omega arith
 
 module _ (t₀ f₀ t₁ f₁ : ℕ) (apart : t₀ < t₁) where
   -- the first point's own duration at its second
@@ -24,9 +24,9 @@ module _ (t₀ f₀ t₁ f₁ : ℕ) (apart : t₀ < t₁) where
       rw e (mul-div_cancel f₀ (omega arith))
 
   -- and the second's
-  pub between-end : between t₀ f₀ t₁ f₁ t₁ ≡ f₁
+  pub between_end : between t₀ f₀ t₁ f₁ t₁ ≡ f₁
   unfolding between
-  between-end =
+  between_end =
       let e : f₀ * (t₁ - t₁) + f₁ * (t₁ - t₀) ≡ f₁ * (t₁ - t₀) = (let z : t₁ - t₁ ≡ 0 = omega arith in rw z (omega arith)) in
       rw e (mul-div_cancel f₁ (omega arith))
 
@@ -36,24 +36,24 @@ module _ (t₀ f₀ t₁ f₁ : ℕ) (apart : t₀ < t₁) where
       sym (mul-add m (t₁ - x) (x - t₀)) ∙ ap (λ (w : ℕ). m * w) (let e : t₁ - x + (x - t₀) ≡ t₁ - t₀ = omega arith in e)
 
   -- no less than a bound below both durations
-  pub between-least : (m x : ℕ) → t₀ ≤ x → x ≤ t₁ → m ≤ f₀ → m ≤ f₁ → m ≤ between t₀ f₀ t₁ f₁ x
+  pub between_least : (m x : ℕ) → t₀ ≤ x → x ≤ t₁ → m ≤ f₀ → m ≤ f₁ → m ≤ between t₀ f₀ t₁ f₁ x
   unfolding between
-  between-least m x a b p q =
+  between_least m x a b p q =
       (le-div_iff_mul-le {k = t₁ - t₀} (omega arith)).1
       (omega (arith, whole m x a b, mul-le-mul_right (t₁ - x) p, mul-le-mul_right (x - t₀) q))
 
   -- no more than a bound above both
-  pub between-most : (m x : ℕ) → t₀ ≤ x → x ≤ t₁ → f₀ ≤ m → f₁ ≤ m → between t₀ f₀ t₁ f₁ x ≤ m
+  pub between_most : (m x : ℕ) → t₀ ≤ x → x ≤ t₁ → f₀ ≤ m → f₁ ≤ m → between t₀ f₀ t₁ f₁ x ≤ m
   unfolding between
-  between-most m x a b p q =
+  between_most m x a b p q =
       div-le_of_le-mul (t₁ - t₀)
       (omega (arith, whole m x a b, mul_comm (t₁ - t₀) m, mul-le-mul_right (t₁ - x) p, mul-le-mul_right (x - t₀) q))
 
   -- a later second never arrives earlier
-  pub between-fifo : (x y : ℕ) → t₀ ≤ x → x ≤ y → y ≤ t₁ → f₀ ≤ f₁ + (t₁ - t₀)
+  pub between_fifo : (x y : ℕ) → t₀ ≤ x → x ≤ y → y ≤ t₁ → f₀ ≤ f₁ + (t₁ - t₀)
       → x + between t₀ f₀ t₁ f₁ x ≤ y + between t₀ f₀ t₁ f₁ y
   unfolding between
-  between-fifo x y a l b fall =
+  between_fifo x y a l b fall =
       let w = t₁ - t₀ in
       let k = y - x in
       let u : t₁ - x ≡ t₁ - y + k = omega arith in

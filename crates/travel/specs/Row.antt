@@ -3,18 +3,18 @@
 use Rattle.std.specs.Prelude.{ℕ, ◌+◌, ◌-◌, ◌*◌, ◌/◌, ◌%◌, ◌≤◌, ◌<◌, ◌≡◌, List}
 use Rattle.std.proofs.Math.Path.{ap, fun_ext}
 use Rattle.std.proofs.Common.{◌∙◌, arith, mul-le-mul_left, mul-add}
-use Rattle.block.specs.Word.{contentAt, Holds}
-use Rattle.records.specs.Format.{pointWords, pieceWords, volumeOf, Laid}
+use Rattle.block.specs.Word.{content_at, Holds}
+use Rattle.records.specs.Format.{point_words, piece_words, volume_of, Laid}
 use Rattle.rules.specs.Rules.{start}
 use Rattle.volume.specs.Sound.{Sound}
 use Rattle.records.specs.declared.tables.Tables.{Tables}
-use Rattle.travel.specs.Last.{lastLe, Rises, Within, within_all, upper-half, lower-half, within-one}
+use Rattle.travel.specs.Last.{last_le, Rises, Within, within_all, upper_half, lower_half, within_one}
 use Rattle.travel.specs.Network.{piece_at}
-use Rattle.travel.specs.PointsFrom.{secondFrom, OfRoad, points-from}
+use Rattle.travel.specs.PointsFrom.{second_from, OfRoad, points_from}
 
 -- word i of the row
 abbrev pub row_at : List ℕ → ℕ → ℕ → ℕ → ℕ
-row_at v base stride i = contentAt v (base + stride * i)
+row_at v base stride i = content_at v (base + stride * i)
 
 -- the bytes hold the row's n words, of which there are some; they rise, and the first is at most x
 pub record Row (v : List ℕ) (base stride n x : ℕ) : Type 0 where
@@ -24,8 +24,8 @@ pub record Row (v : List ℕ) (base stride n x : ℕ) : Type 0 where
   pub first : row_at v base stride 0 ≤ x
 
 -- every word of the row is held
-pub row-held : (v : List ℕ) (base stride n x i : ℕ) → Row v base stride n x → i < n → Holds v (base + stride * i)
-row-held v base stride n x i r h =
+pub row_held : (v : List ℕ) (base stride n x i : ℕ) → Row v base stride n x → i < n → Holds v (base + stride * i)
+row_held v base stride n x i r h =
     let a = mul-le-mul_left {m = i} {n = n - 1} stride (omega arith) in
     omega (arith, r.held)
 
@@ -36,42 +36,42 @@ pub record Narrowed (v : List ℕ) (base stride n x w rest : ℕ) : Type 0 where
   pub within : Within (row_at v base stride) n x lo rest
 
 module _ {v : List ℕ} {base stride n x : ℕ} (R : Row v base stride n x) where
-  pub narrowed-all : Narrowed v base stride n x base n
-  narrowed-all = record { lo = 0; at = omega arith; within = within_all _ n x R.some R.first }
+  pub narrowed_all : Narrowed v base stride n x base n
+  narrowed_all = record { lo = 0; at = omega arith; within = within_all _ n x R.some R.first }
 
   module _ {w rest : ℕ} (N : Narrowed v base stride n x w rest) where
     -- the record in the middle
     middle : w + stride * (rest / 2) ≡ base + stride * (N.lo + rest / 2)
     middle = let d = mul-add stride N.lo (rest / 2) in omega (arith, d, N.at)
 
-    pub middle-held : 1 < rest → Holds v (w + stride * (rest / 2))
-    middle-held more = rw middle (row-held v base stride n x (N.lo + rest / 2) R (omega (arith, N.within.inside)))
+    pub middle_held : 1 < rest → Holds v (w + stride * (rest / 2))
+    middle_held more = rw middle (row_held v base stride n x (N.lo + rest / 2) R (omega (arith, N.within.inside)))
 
-    pub narrowed-upper : 1 < rest → contentAt v (w + stride * (rest / 2)) ≤ x
+    pub narrowed_upper : 1 < rest → content_at v (w + stride * (rest / 2)) ≤ x
         → Narrowed v base stride n x (w + stride * (rest / 2)) (rest - rest / 2)
-    narrowed-upper more k =
-        let q = ap (contentAt v) middle in
-        record { lo = N.lo + rest / 2; at = middle; within = upper-half _ n x N.lo rest N.within more (omega (arith, q)) }
+    narrowed_upper more k =
+        let q = ap (content_at v) middle in
+        record { lo = N.lo + rest / 2; at = middle; within = upper_half _ n x N.lo rest N.within more (omega (arith, q)) }
 
-    pub narrowed-lower : 1 < rest → x < contentAt v (w + stride * (rest / 2)) → Narrowed v base stride n x w (rest - rest / 2)
-    narrowed-lower more k =
-        let q = ap (contentAt v) middle in
-        record { lo = N.lo; at = N.at; within = lower-half _ n x N.lo rest N.within more R.rise (omega (arith, q)) }
+    pub narrowed_lower : 1 < rest → x < content_at v (w + stride * (rest / 2)) → Narrowed v base stride n x w (rest - rest / 2)
+    narrowed_lower more k =
+        let q = ap (content_at v) middle in
+        record { lo = N.lo; at = N.at; within = lower_half _ n x N.lo rest N.within more R.rise (omega (arith, q)) }
 
-    pub narrowed-one : rest ≤ 1 → w ≡ base + stride * lastLe (row_at v base stride) n x
-    narrowed-one one = N.at ∙ ap (λ (i : ℕ). base + stride * i) (within-one _ n x N.lo rest N.within one)
+    pub narrowed_one : rest ≤ 1 → w ≡ base + stride * last_le (row_at v base stride) n x
+    narrowed_one one = N.at ∙ ap (λ (i : ℕ). base + stride * i) (within_one _ n x N.lo rest N.within one)
 
 module _ {v : List ℕ} {t : Tables} (L : Laid v t) where
   -- the seconds of road k's points
-  module _ {k first n : ℕ} (R : OfRoad (volumeOf v) k first n) (base : ℕ) (b : base ≡ t.points + pointWords * first) where
-    seconds : (i : ℕ) → row_at v base pointWords i ≡ secondFrom (volumeOf v) first i
-    unfolding volumeOf
-    seconds i = ap (contentAt v) (omega (arith, L.points))
+  module _ {k first n : ℕ} (R : OfRoad (volume_of v) k first n) (base : ℕ) (b : base ≡ t.points + point_words * first) where
+    seconds : (i : ℕ) → row_at v base point_words i ≡ second_from (volume_of v) first i
+    unfolding volume_of
+    seconds i = ap (content_at v) (omega (arith, L.points))
 
-    pub seconds-row : (y : ℕ) → (volumeOf v).point-second first ≤ y → Row v base pointWords n y
-    seconds-row y l =
-        let z : (volumeOf v).point-second first ≡ secondFrom (volumeOf v) first 0 = ap (volumeOf v).point-second (omega arith) in
-        let Q = points-from R in
+    pub seconds_row : (y : ℕ) → (volume_of v).point_second first ≤ y → Row v base point_words n y
+    seconds_row y l =
+        let z : (volume_of v).point_second first ≡ second_from (volume_of v) first 0 = ap (volume_of v).point_second (omega arith) in
+        let Q = points_from R in
         let q = Q.points.some in
         record {
           some = q;
@@ -81,18 +81,18 @@ module _ {v : List ℕ} {t : Tables} (L : Laid v t) where
         }
 
     -- the last of them at or before y is the point in force
-    pub seconds-last : (y w : ℕ) → w ≡ base + pointWords * lastLe (row_at v base pointWords) n y → (w - base) / pointWords ≡ lastLe (secondFrom (volumeOf v) first) n y
-    seconds-last y w e = let q = ap (λ (key : ℕ → ℕ). lastLe key n y) (fun_ext seconds) in omega (arith, e, q)
+    pub seconds_last : (y w : ℕ) → w ≡ base + point_words * last_le (row_at v base point_words) n y → (w - base) / point_words ≡ last_le (second_from (volume_of v) first) n y
+    seconds_last y w e = let q = ap (λ (key : ℕ → ℕ). last_le key n y) (fun_ext seconds) in omega (arith, e, q)
 
   -- the starts of edge e's pieces
-  module _ (S : Sound (volumeOf v)) (e first n base : ℕ) (h : e < (volumeOf v).edges) (f : first ≡ (volumeOf v).edge-first e)
-      (c : n ≡ (volumeOf v).edge-pieces e) (b : base ≡ t.pieces + pieceWords * first) where
-    starts : (i : ℕ) → row_at v base pieceWords i ≡ start (volumeOf v) e i
-    unfolding volumeOf
-    starts i = ap (contentAt v) (omega (arith, L.pieces))
+  module _ (S : Sound (volume_of v)) (e first n base : ℕ) (h : e < (volume_of v).edges) (f : first ≡ (volume_of v).edge_first e)
+      (c : n ≡ (volume_of v).edge_pieces e) (b : base ≡ t.pieces + piece_words * first) where
+    starts : (i : ℕ) → row_at v base piece_words i ≡ start (volume_of v) e i
+    unfolding volume_of
+    starts i = ap (content_at v) (omega (arith, L.pieces))
 
-    pub starts-row : (y : ℕ) → Row v base pieceWords n y
-    starts-row y =
+    pub starts_row : (y : ℕ) → Row v base piece_words n y
+    starts_row y =
         let E = S.edge e h in
         let q : 0 < n = omega (arith, E.some) in
         record {
@@ -103,7 +103,7 @@ module _ {v : List ℕ} {t : Tables} (L : Laid v t) where
         }
 
     -- the last of them at or before y, the second of the period at x, is the piece in force
-    pub starts-last : (x y i : ℕ) → y ≡ x % (volumeOf v).period → i ≡ lastLe (row_at v base pieceWords) n y
-        → first + i ≡ piece_at (volumeOf v) e (x % (volumeOf v).period)
+    pub starts_last : (x y i : ℕ) → y ≡ x % (volume_of v).period → i ≡ last_le (row_at v base piece_words) n y
+        → first + i ≡ piece_at (volume_of v) e (x % (volume_of v).period)
     unfolding piece_at
-    starts-last x y i m q = rw (f, q, fun_ext starts, c, m)
+    starts_last x y i m q = rw (f, q, fun_ext starts, c, m)

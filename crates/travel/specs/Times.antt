@@ -2,11 +2,11 @@
 use Rattle.std.specs.Prelude.{ℕ, ◌-◌, ◌≡◌, List, ltb}
 use Rattle.std.proofs.Common.{sym, ◌∙◌}
 use Rattle.block.specs.Choose.{choose}
-use Rattle.records.specs.Format.{volumeOf}
-use Rattle.volume.specs.Open.{openOf}
+use Rattle.records.specs.Format.{volume_of}
+use Rattle.volume.specs.Open.{open_of}
 use Rattle.volume.specs.declared.Opening.{Opening}
 use Rattle.volume.specs.declared.Opening.TheVariants.{Opened, Refused as NotOpened}
-use Rattle.travel.specs.Network.{roadTime, arrival}
+use Rattle.travel.specs.Network.{road_time, arrival}
 use Rattle.travel.specs.declared.Timing.{Timing}
 use Rattle.travel.specs.declared.Timing.TheVariants.{Lasts, Refused}
 
@@ -20,19 +20,19 @@ abbrev pub timed : ℕ → ℕ → ℕ → Timing
 timed count number lasts = choose (ltb number count) (Lasts lasts) (Refused 7 0)
 
 -- the duration of a road at a departure
-unfoldable pub roadTimeOf : List ℕ → ℕ → ℕ → Timing
-roadTimeOf v road departure =
-    opening (openOf v) (timed (volumeOf v).roads road (roadTime (volumeOf v) road departure))
+unfoldable pub road_time_of : List ℕ → ℕ → ℕ → Timing
+road_time_of v road departure =
+    opening (open_of v) (timed (volume_of v).roads road (road_time (volume_of v) road departure))
 
 -- the duration of an edge at a departure
-unfoldable pub edgeTimeOf : List ℕ → ℕ → ℕ → Timing
-edgeTimeOf v edge departure =
-    opening (openOf v) (timed (volumeOf v).edges edge (arrival (volumeOf v) edge departure - departure))
+unfoldable pub edge_time_of : List ℕ → ℕ → ℕ → Timing
+edge_time_of v edge departure =
+    opening (open_of v) (timed (volume_of v).edges edge (arrival (volume_of v) edge departure - departure))
 
 -- the contracts of the two travel times allow one answer
 
-pub one-road-time : (v : List ℕ) (road departure : ℕ) (r s : Timing) → r ≡ roadTimeOf v road departure → s ≡ roadTimeOf v road departure → r ≡ s
-one-road-time v road departure r s p q = p ∙ sym q
+pub one_road_time : (v : List ℕ) (road departure : ℕ) (r s : Timing) → r ≡ road_time_of v road departure → s ≡ road_time_of v road departure → r ≡ s
+one_road_time v road departure r s p q = p ∙ sym q
 
-pub one-edge-time : (v : List ℕ) (edge departure : ℕ) (r s : Timing) → r ≡ edgeTimeOf v edge departure → s ≡ edgeTimeOf v edge departure → r ≡ s
-one-edge-time v edge departure r s p q = p ∙ sym q
+pub one_edge_time : (v : List ℕ) (edge departure : ℕ) (r s : Timing) → r ≡ edge_time_of v edge departure → s ≡ edge_time_of v edge departure → r ≡ s
+one_edge_time v edge departure r s p q = p ∙ sym q

@@ -10,10 +10,10 @@ use Rattle.std.proofs.Math.Decide.{dec_lt}
 use native.Mathlib.Omega.{arith}
 use Rattle.std.proofs.Math.Nat.{add-mul, mul-add-div_right, zero-div, div-eq_of_lt-le}
 use Rattle.volume.specs.Sound.{Points}
-use Rattle.travel.specs.Last.{IsLast, last-is, rise-far, above_from}
-use Rattle.travel.specs.Road.{between, rightSecond, rightDuration, fromPoint, roadDuration}
-use Rattle.travel.specs.Lines.{OnLine, right-next, right-over, right, last_line, point-line}
-use Rattle.travel.specs.RoadLaws.{road-early, road-late}
+use Rattle.travel.specs.Last.{IsLast, last_is, rise_far, above_from}
+use Rattle.travel.specs.Road.{between, right_second, right_duration, from_point, road_duration}
+use Rattle.travel.specs.Lines.{OnLine, right_next, right_over, right, last_line, point_line}
+use Rattle.travel.specs.RoadLaws.{road_early, road_late}
 
 -- the floor of z / w, towards minus infinity: of -(n + 1) / w it is -(n / w + 1)
 unfoldable pub floor : ℤ → ℕ → ℤ
@@ -25,35 +25,35 @@ abbrev pub worded : ℕ → ℕ → ℕ → ℕ → ℕ → ℤ
 worded t₀ f₀ t₁ f₁ x = pos f₀ +ℤ floor ((pos f₁ -ℤ pos f₀) *ℤ (pos x -ℤ pos t₀)) (t₁ - t₀)
 
 -- -k is at most -(n + 1), and above it
-neg-le : (k n : ℕ) → n < k → neg_ℤ (pos k) ≤ℤ negsuc n
-neg-le zero n h = absurd (omega arith)
-neg-le (suc k) n h = record { le = le→leb n k (omega arith) }
+neg_le : (k n : ℕ) → n < k → neg_ℤ (pos k) ≤ℤ negsuc n
+neg_le zero n h = absurd (omega arith)
+neg_le (suc k) n h = record { le = le→leb n k (omega arith) }
 
-neg-lt : (k n : ℕ) → k ≤ n → negsuc n <ℤ neg_ℤ (pos k)
-neg-lt zero n h = record { lt = tt }
-neg-lt (suc k) n h = record { lt = lt→ltb k n h }
+neg_lt : (k n : ℕ) → k ≤ n → negsuc n <ℤ neg_ℤ (pos k)
+neg_lt zero n h = record { lt = tt }
+neg_lt (suc k) n h = record { lt = lt→ltb k n h }
 
 -- the floor is the whole number q with q·w ≤ z < (q + 1)·w
-pub floor-is : (z : ℤ) (w : ℕ) → 0 < w → ((floor z w *ℤ pos w) ≤ℤ z) × (z <ℤ (suc_ℤ (floor z w) *ℤ pos w))
+pub floor_is : (z : ℤ) (w : ℕ) → 0 < w → ((floor z w *ℤ pos w) ≤ℤ z) × (z <ℤ (suc_ℤ (floor z w) *ℤ pos w))
 unfolding floor
-floor-is (pos n) w h =
+floor_is (pos n) w h =
     let e = div-add-mod' n w in
     let l = mod-lt n h in
     (record { le = le→leb (n / w * w) n (omega arith) }, record { lt = lt→ltb n (suc (n / w) * w) (omega arith) })
-floor-is (negsuc n) w h = (neg-le (suc (n / w) * w) n (omega (arith, div-add-mod' n w, mod-lt n h)), above (n / w) (omega (arith, div-add-mod' n w)))
+floor_is (negsuc n) w h = (neg_le (suc (n / w) * w) n (omega (arith, div-add-mod' n w, mod-lt n h)), above (n / w) (omega (arith, div-add-mod' n w)))
   where
     above : (q : ℕ) → q * w ≤ n → negsuc n <ℤ (suc_ℤ (negsuc q) *ℤ pos w)
     above zero l = record { lt = tt }
-    above (suc q) l = neg-lt (suc q * w) n l
+    above (suc q) l = neg_lt (suc q * w) n l
 
 -- a difference of two naturals as signed numbers
 minus_pos : (a b : ℕ) → b ≤ a → pos a -ℤ pos b ≡ pos (a - b)
 minus_pos a zero h = ap pos (omega arith)
 minus_pos a (suc b) h = rw (le-ltb a (suc b) h)
 
-minus-neg : (a b : ℕ) → a < b → pos a -ℤ pos b ≡ negsuc (b - suc a)
-minus-neg a zero h = absurd (omega arith)
-minus-neg a (suc b) h = rw (lt-ltb a (suc b) h)
+minus_neg : (a b : ℕ) → a < b → pos a -ℤ pos b ≡ negsuc (b - suc a)
+minus_neg a zero h = absurd (omega arith)
+minus_neg a (suc b) h = rw (lt-ltb a (suc b) h)
 
 module _ (t₀ f₀ t₁ f₁ x : ℕ) (apart : t₀ < t₁) (after : t₀ ≤ x) (before : x ≤ t₁) where
   -- the two parts of the width, times any duration
@@ -100,12 +100,12 @@ module _ (t₀ f₀ t₁ f₁ x : ℕ) (apart : t₀ < t₁) (after : t₀ ≤ x
           ap pos r ∙ sym (minus_pos f₀ (suc q) b)
 
   -- between two points, the duration is the document's
-  pub between-worded : pos (between t₀ f₀ t₁ f₁ x) ≡ worded t₀ f₀ t₁ f₁ x
+  pub between_worded : pos (between t₀ f₀ t₁ f₁ x) ≡ worded t₀ f₀ t₁ f₁ x
   unfolding floor
-  between-worded = go (dec_lt f₁ f₀)
+  between_worded = go (dec_lt f₁ f₀)
     where
       go : Dec (f₁ < f₀) → pos (between t₀ f₀ t₁ f₁ x) ≡ worded t₀ f₀ t₁ f₁ x
-      go (yes h) = rw (minus-neg f₁ f₀ h, minus_pos x t₀ after) (quicker (suc (f₀ - suc f₁) * (x - t₀)) h refl)
+      go (yes h) = rw (minus_neg f₁ f₀ h, minus_pos x t₀ after) (quicker (suc (f₀ - suc f₁) * (x - t₀)) h refl)
       go (no g) =
           let h : f₀ ≤ f₁ = omega arith in
           rw (minus_pos f₁ f₀ h, minus_pos x t₀ after) (ap pos (slower h))
@@ -113,42 +113,42 @@ module _ (t₀ f₀ t₁ f₁ x : ℕ) (apart : t₀ < t₁) (after : t₀ ≤ x
 -- a road with sound points, at second t of the period
 module _ (period n : ℕ) (s d : ℕ → ℕ) (P : Points period n s d) (t : ℕ) (h : t < period) where
   -- on the line from point i
-  on_line : (i x : ℕ) → OnLine period n s d i x → roadDuration period n s d t ≡ fromPoint period n s d i x
-      → pos (roadDuration period n s d t) ≡ worded (s i) (d i) (rightSecond period n s d i) (rightDuration period n s d i) x
-  unfolding fromPoint
+  on_line : (i x : ℕ) → OnLine period n s d i x → road_duration period n s d t ≡ from_point period n s d i x
+      → pos (road_duration period n s d t) ≡ worded (s i) (d i) (right_second period n s d i) (right_duration period n s d i) x
+  unfolding from_point
   on_line i x o e =
       ap pos e
-      ∙ between-worded (s i) (d i) (rightSecond period n s d i) (rightDuration period n s d i) x (right period n s d P i o.point).later
+      ∙ between_worded (s i) (d i) (right_second period n s d i) (right_duration period n s d i) x (right period n s d P i o.point).later
       o.after (omega (arith, o.before))
 
   -- between point i and the next
-  pub road-between : (i : ℕ) → i + 1 < n → s i ≤ t → t < s (i + 1)
-      → pos (roadDuration period n s d t) ≡ worded (s i) (d i) (s (i + 1)) (d (i + 1)) t
-  road-between i l a b =
-      let q = right-next period n s d i l in
+  pub road_between : (i : ℕ) → i + 1 < n → s i ≤ t → t < s (i + 1)
+      → pos (road_duration period n s d t) ≡ worded (s i) (d i) (s (i + 1)) (d (i + 1)) t
+  road_between i l a b =
+      let q = right_next period n s d i l in
       let last : IsLast s n t i = record {
         below = omega arith;
         le = a;
         above = λ j g k. above_from s n t (i + 1) P.rise b j (omega arith) k;
       } in
-      let first : s 0 ≤ t = omega (arith, rise-far s n P.rise 0 i (omega arith) (omega arith)) in
-      let e = road-late period n s d t i first (sym (last-is s n t i last)) in
-      rw (q.0, q.1) at (on_line i t (point-line period n s d P t i (omega arith) last) e)
+      let first : s 0 ≤ t = omega (arith, rise_far s n P.rise 0 i (omega arith) (omega arith)) in
+      let e = road_late period n s d t i first (sym (last_is s n t i last)) in
+      rw (q.0, q.1) at (on_line i t (point_line period n s d P t i (omega arith) last) e)
 
   -- after the last point: the first of the next period is the right neighbour
-  pub road-after : s (n - 1) ≤ t → pos (roadDuration period n s d t) ≡ worded (s (n - 1)) (d (n - 1)) (s 0 + period) (d 0) t
-  road-after a =
-      let q = right-over period n s d (n - 1) (omega arith) in
+  pub road_after : s (n - 1) ≤ t → pos (road_duration period n s d t) ≡ worded (s (n - 1)) (d (n - 1)) (s 0 + period) (d 0) t
+  road_after a =
+      let q = right_over period n s d (n - 1) (omega arith) in
       let some = P.some in
       let last : IsLast s n t (n - 1) = record { below = omega arith; le = a; above = λ j g k. absurd (omega arith) } in
-      let first : s 0 ≤ t = omega (arith, rise-far s n P.rise 0 (n - 1) (omega arith) (omega arith)) in
-      let e = road-late period n s d t (n - 1) first (sym (last-is s n t (n - 1) last)) in
-      rw (q.0, q.1) at (on_line (n - 1) t (point-line period n s d P t (n - 1) (omega arith) last) e)
+      let first : s 0 ≤ t = omega (arith, rise_far s n P.rise 0 (n - 1) (omega arith) (omega arith)) in
+      let e = road_late period n s d t (n - 1) first (sym (last_is s n t (n - 1) last)) in
+      rw (q.0, q.1) at (on_line (n - 1) t (point_line period n s d P t (n - 1) (omega arith) last) e)
 
   -- before the first point: the last of the period before is the left neighbour. The seconds are counted from that period's start.
-  pub road-before : t < s 0 → pos (roadDuration period n s d t) ≡ worded (s (n - 1)) (d (n - 1)) (s 0 + period) (d 0) (t + period)
-  road-before b =
-      let q = right-over period n s d (n - 1) (omega arith) in
+  pub road_before : t < s 0 → pos (road_duration period n s d t) ≡ worded (s (n - 1)) (d (n - 1)) (s 0 + period) (d 0) (t + period)
+  road_before b =
+      let q = right_over period n s d (n - 1) (omega arith) in
       let some = P.some in
-      let o = last_line period n s d P (t + period) (omega (arith, P.in-period (n - 1) (omega arith))) (omega arith) in
-      rw (q.0, q.1) at (on_line (n - 1) (t + period) o (road-early period n s d t b))
+      let o = last_line period n s d P (t + period) (omega (arith, P.in_period (n - 1) (omega arith))) (omega arith) in
+      rw (q.0, q.1) at (on_line (n - 1) (t + period) o (road_early period n s d t b))

@@ -3,9 +3,9 @@
 // the content word at which its pieces begin, and behind the last edge the one at which they end. The edges stand from the first place
 // on and the roads from the last place back, so that a list of any length serves that has a place more than there are roads and edges.
 ghost use Rattle.std.specs.Prelude.{◌≡◌, ◌+◌, ◌-◌, ◌^◌, ◌≤◌, ◌<◌, length, get_or};
-ghost use Rattle.records.specs.Format.{volumeOf, Counted, Laid};
+ghost use Rattle.records.specs.Format.{volume_of, Counted, Laid};
 ghost use Rattle.volume.specs.Sound.{Sound};
-ghost use Rattle.travel.specs.Digest.{steadyOf, steadyBack, piecesFrom, listed, digestOf};
+ghost use Rattle.travel.specs.Digest.{steady_of, steady_back, pieces_from, listed, digest_of};
 
 use records::tables::{Counts, PIECE_WORDS, Tables, edge_pieces, point_at, road_at};
 
@@ -17,9 +17,9 @@ pub const LONG: usize = 4096 + 16384 + 1;
 // The duration of road k where it has one point, else 0.
 fn steady(v: &[u8], t: Tables, k: usize) -> u64
     requires laid { Laid v.now t }
-    requires sound { Sound (volumeOf v.now) }
-    requires k_bound { k < (volumeOf v.now).roads }
-    ensures { (result ≡ steadyOf (volumeOf v.now) k) × (result < 2 ^ 32) }
+    requires sound { Sound (volume_of v.now) }
+    requires k_bound { k < (volume_of v.now).roads }
+    ensures { (result ≡ steady_of (volume_of v.now) k) × (result < 2 ^ 32) }
 {
     let road = road_at(v, t, k);
     if road.points == 1 {
@@ -31,9 +31,9 @@ fn steady(v: &[u8], t: Tables, k: usize) -> u64
 // Writes the roads, of which the last stands first.
 fn list_roads(v: &[u8], t: Tables, roads: usize, digest: &mut [u32])
     requires laid { Laid v.now t }
-    requires sound { Sound (volumeOf v.now) }
-    requires roads_value { (roads ≡ (volumeOf v.now).roads) × (roads ≤ length digest.old) }
-    ensures { digest.new ≡ listed (length digest.old - roads) (steadyBack (volumeOf v.now)) roads digest.old }
+    requires sound { Sound (volume_of v.now) }
+    requires roads_value { (roads ≡ (volume_of v.now).roads) × (roads ≤ length digest.old) }
+    ensures { digest.new ≡ listed (length digest.old - roads) (steady_back (volume_of v.now)) roads digest.old }
 {
     let begin = digest.len() - roads;
     let mut i: usize = 0;
@@ -46,9 +46,9 @@ fn list_roads(v: &[u8], t: Tables, roads: usize, digest: &mut [u32])
 // Writes the edges: the pieces of each begin where those of the edge before end.
 fn list_edges(v: &[u8], t: Tables, edges: usize, digest: &mut [u32])
     requires laid { Laid v.now t }
-    requires sound { Sound (volumeOf v.now) }
-    requires edges_value { (edges ≡ (volumeOf v.now).edges) × (edges < length digest.old) }
-    ensures { digest.new ≡ listed 0 (piecesFrom (volumeOf v.now)) (edges + 1) digest.old }
+    requires sound { Sound (volume_of v.now) }
+    requires edges_value { (edges ≡ (volume_of v.now).edges) × (edges < length digest.old) }
+    ensures { digest.new ≡ listed 0 (pieces_from (volume_of v.now)) (edges + 1) digest.old }
 {
     let mut word = t.pieces;
     digest[0] = word as u32;
@@ -63,10 +63,10 @@ fn list_edges(v: &[u8], t: Tables, edges: usize, digest: &mut [u32])
 // Writes the digest.
 pub fn make_digest(v: &[u8], t: Tables, c: Counts, digest: &mut [u32])
     requires laid { Laid v.now t }
-    requires sound { Sound (volumeOf v.now) }
-    requires counted { Counted (volumeOf v.now) c }
+    requires sound { Sound (volume_of v.now) }
+    requires counted { Counted (volume_of v.now) c }
     requires roads_in_bounds { c.edges + c.roads < length digest.old }
-    ensures { digest.new ≡ digestOf (volumeOf v.now) digest.old }
+    ensures { digest.new ≡ digest_of (volume_of v.now) digest.old }
 {
     list_edges(v, t, c.edges, digest);
     list_roads(v, t, c.roads, digest);

@@ -1,10 +1,10 @@
 // How long an edge takes at a departure: document 01, "Travel time". The edge asks its piece in force, and the piece asks the edges
 // below: one cycle of calls, in which the edge number falls. What the digest has is not read from the sealed words.
 ghost use Rattle.std.specs.Prelude.{◌≡◌, ◌+◌, ◌%◌, ◌<◌};
-ghost use Rattle.records.specs.Format.{volumeOf};
+ghost use Rattle.records.specs.Format.{volume_of};
 ghost use Rattle.volume.specs.Sound.{Sound};
-ghost use Rattle.travel.specs.Network.{piece_at, roadTime, Enters, arrival};
-ghost use Rattle.travel.specs.Digest.{LaidOut, pieceWord, Stands, Digest};
+ghost use Rattle.travel.specs.Network.{piece_at, road_time, Enters, arrival};
+ghost use Rattle.travel.specs.Digest.{LaidOut, piece_word, Stands, Digest};
 
 use crate::digest::{pieces_at, steady_at};
 use crate::last::last_at;
@@ -17,10 +17,10 @@ use volume::tables_in;
 // piece, and need no search.
 pub fn word_in_force(v: &[u8], e: usize, at: usize, end: usize, x: u64) -> usize
     requires laid_out { LaidOut v.now }
-    requires sound { Sound (volumeOf v.now) }
-    requires e_bound { e < (volumeOf v.now).edges }
-    requires stands { Stands (volumeOf v.now) e at end }
-    ensures { result ≡ pieceWord (volumeOf v.now) (piece_at (volumeOf v.now) e (x % (volumeOf v.now).period)) }
+    requires sound { Sound (volume_of v.now) }
+    requires e_bound { e < (volume_of v.now).edges }
+    requires stands { Stands (volume_of v.now) e at end }
+    ensures { result ≡ piece_word (volume_of v.now) (piece_at (volume_of v.now) e (x % (volume_of v.now).period)) }
 {
     if at + PIECE_WORDS == end {
         return at;
@@ -37,10 +37,10 @@ pub fn word_in_force(v: &[u8], e: usize, at: usize, end: usize, x: u64) -> usize
 // The duration of road k for who enters it at x.
 pub fn road_lasts(v: &[u8], digest: &[u32], k: usize, x: u64) -> u64
     requires laid_out { LaidOut v.now }
-    requires sound { Sound (volumeOf v.now) }
-    requires digest { Digest (volumeOf v.now) digest.now }
-    requires k_bound { k < (volumeOf v.now).roads }
-    ensures { result ≡ roadTime (volumeOf v.now) k x }
+    requires sound { Sound (volume_of v.now) }
+    requires digest { Digest (volume_of v.now) digest.now }
+    requires k_bound { k < (volume_of v.now).roads }
+    ensures { result ≡ road_time (volume_of v.now) k x }
 {
     let d = steady_at(digest, k);
     if d != 0 {
@@ -53,11 +53,11 @@ pub fn road_lasts(v: &[u8], digest: &[u32], k: usize, x: u64) -> u64
 #[cycle(piece_duration_pieces_duration)]
 fn pieces_duration(v: &[u8], digest: &[u32], e: usize, at: usize, end: usize, x: u64) -> u64
     requires laid_out { LaidOut v.now }
-    requires sound { Sound (volumeOf v.now) }
-    requires digest { Digest (volumeOf v.now) digest.now }
-    requires enters { Enters (volumeOf v.now) e x }
-    requires stands { Stands (volumeOf v.now) e at end }
-    ensures { x + result ≡ arrival (volumeOf v.now) e x }
+    requires sound { Sound (volume_of v.now) }
+    requires digest { Digest (volume_of v.now) digest.now }
+    requires enters { Enters (volume_of v.now) e x }
+    requires stands { Stands (volume_of v.now) e at end }
+    ensures { x + result ≡ arrival (volume_of v.now) e x }
 {
     let w = word_in_force(v, e, at, end, x);
     piece_duration(v, digest, e, w, x)
@@ -68,11 +68,11 @@ fn pieces_duration(v: &[u8], digest: &[u32], e: usize, at: usize, end: usize, x:
 #[cycle(piece_duration_pieces_duration)]
 fn piece_duration(v: &[u8], digest: &[u32], e: usize, w: usize, x: u64) -> u64
     requires laid_out { LaidOut v.now }
-    requires sound { Sound (volumeOf v.now) }
-    requires digest { Digest (volumeOf v.now) digest.now }
-    requires enters { Enters (volumeOf v.now) e x }
-    requires w_value { w ≡ pieceWord (volumeOf v.now) (piece_at (volumeOf v.now) e (x % (volumeOf v.now).period)) }
-    ensures { x + result ≡ arrival (volumeOf v.now) e x }
+    requires sound { Sound (volume_of v.now) }
+    requires digest { Digest (volume_of v.now) digest.now }
+    requires enters { Enters (volume_of v.now) e x }
+    requires w_value { w ≡ piece_word (volume_of v.now) (piece_at (volume_of v.now) e (x % (volume_of v.now).period)) }
+    ensures { x + result ≡ arrival (volume_of v.now) e x }
 {
     let left = content(v, w + LEFT) as usize;
     let right = content(v, w + RIGHT) as usize;
@@ -91,10 +91,10 @@ fn piece_duration(v: &[u8], digest: &[u32], e: usize, w: usize, x: u64) -> u64
 // The duration of edge e for who enters it at x.
 pub fn edge_duration(v: &[u8], digest: &[u32], e: usize, x: u64) -> u64
     requires laid_out { LaidOut v.now }
-    requires sound { Sound (volumeOf v.now) }
-    requires digest { Digest (volumeOf v.now) digest.now }
-    requires enters { Enters (volumeOf v.now) e x }
-    ensures { x + result ≡ arrival (volumeOf v.now) e x }
+    requires sound { Sound (volume_of v.now) }
+    requires digest { Digest (volume_of v.now) digest.now }
+    requires enters { Enters (volume_of v.now) e x }
+    ensures { x + result ≡ arrival (volume_of v.now) e x }
 {
     let at = pieces_at(digest, e);
     let end = pieces_at(digest, e + 1);

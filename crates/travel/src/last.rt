@@ -1,6 +1,6 @@
 // The one search for what is in force: a road's point and an edge's piece are both the last whose second is at most x.
 ghost use Rattle.std.specs.Prelude.{◌≡◌, ◌+◌, ◌*◌};
-ghost use Rattle.travel.specs.Last.{lastLe};
+ghost use Rattle.travel.specs.Last.{last_le};
 ghost use Rattle.travel.specs.Row.{Row, row_at};
 
 use block::content;
@@ -10,7 +10,7 @@ use block::content;
 // and decides nothing else.
 pub fn last_at(v: &[u8], base: usize, stride: usize, n: usize, x: u32) -> usize
     requires { Row v.now base stride n x }
-    ensures { result ≡ base + stride * lastLe (row_at v.now base stride) n x }
+    ensures { result ≡ base + stride * last_le (row_at v.now base stride) n x }
 {
     let mut w = base;
     let mut rest = n;

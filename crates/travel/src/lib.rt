@@ -1,10 +1,10 @@
 // Travel times: how long a road and an edge take at a departure, and the roads that an edge unfolds to. Answers to document 01,
 // "Travel time", and to its sentences on the unfolded path. What a volume holds is the crate `records`'.
 ghost use Rattle.std.specs.Prelude.{◌≡◌, ◌+◌, ◌<◌, length};
-ghost use Rattle.records.specs.Format.{volumeOf, Counted, Laid};
+ghost use Rattle.records.specs.Format.{volume_of, Counted, Laid};
 ghost use Rattle.volume.specs.Sound.{Sound};
 ghost use Rattle.travel.specs.Network.{Enters, arrival};
-ghost use Rattle.travel.specs.Times.{roadTimeOf, edgeTimeOf};
+ghost use Rattle.travel.specs.Times.{road_time_of, edge_time_of};
 
 use crate::digest::{LONG, SHORT, make_digest};
 use crate::edge::edge_duration;
@@ -27,7 +27,7 @@ pub enum Timing {
 
 // How long a road takes, entered at any departure.
 pub fn road_time(v: &[u8], road: u32, departure: u32) -> Timing
-    ensures { result ≡ roadTimeOf v.now road departure }
+    ensures { result ≡ road_time_of v.now road departure }
 {
     let opening = open(v);
     match opening {
@@ -45,11 +45,11 @@ pub fn road_time(v: &[u8], road: u32, departure: u32) -> Timing
 // The duration of edge e for who enters it at x, by a digest in a list that has room for it.
 fn edge_digested(v: &[u8], t: Tables, c: Counts, e: usize, x: u64, digest: &mut [u32]) -> u64
     requires laid { Laid v.now t }
-    requires sound { Sound (volumeOf v.now) }
-    requires counted { Counted (volumeOf v.now) c }
-    requires enters { Enters (volumeOf v.now) e x }
+    requires sound { Sound (volume_of v.now) }
+    requires counted { Counted (volume_of v.now) c }
+    requires enters { Enters (volume_of v.now) e x }
     requires roads_in_bounds { c.edges + c.roads < length digest.old }
-    ensures { x + result ≡ arrival (volumeOf v.now) e x }
+    ensures { x + result ≡ arrival (volume_of v.now) e x }
 {
     make_digest(v, t, c, digest);
     edge_duration(v, digest, e, x)
@@ -60,10 +60,10 @@ fn edge_digested(v: &[u8], t: Tables, c: Counts, e: usize, x: u64, digest: &mut 
 // roads and edges get a short list.
 fn edge_lasts(v: &[u8], t: Tables, c: Counts, e: usize, x: u64) -> u64
     requires laid { Laid v.now t }
-    requires sound { Sound (volumeOf v.now) }
-    requires counted { Counted (volumeOf v.now) c }
-    requires enters { Enters (volumeOf v.now) e x }
-    ensures { x + result ≡ arrival (volumeOf v.now) e x }
+    requires sound { Sound (volume_of v.now) }
+    requires counted { Counted (volume_of v.now) c }
+    requires enters { Enters (volume_of v.now) e x }
+    ensures { x + result ≡ arrival (volume_of v.now) e x }
 {
     if 16 * edge_span(v, t, e) <= c.edges + 256 {
         return count_roads(v, t, e, x).duration;
@@ -78,7 +78,7 @@ fn edge_lasts(v: &[u8], t: Tables, c: Counts, e: usize, x: u64) -> u64
 
 // How long an edge takes, entered at any departure.
 pub fn edge_time(v: &[u8], edge: u32, departure: u32) -> Timing
-    ensures { result ≡ edgeTimeOf v.now edge departure }
+    ensures { result ≡ edge_time_of v.now edge departure }
 {
     let opening = open(v);
     match opening {

@@ -1,12 +1,12 @@
 // The roads of an edge at a departure: document 01, "The settling rule", on the path. An edge is unfolded by its piece in force, the
 // left half first, and the right half's roads are written directly after it.
 ghost use Rattle.std.specs.Prelude.{◌≡◌, ◌%◌, ◌≤◌, ◌<◌, length};
-ghost use Rattle.records.specs.Format.{volumeOf, Laid};
+ghost use Rattle.records.specs.Format.{volume_of, Laid};
 ghost use Rattle.volume.specs.Sound.{Sound};
-ghost use Rattle.travel.specs.Network.{piece_at, Enters, roadsOf};
-ghost use Rattle.travel.specs.Digest.{pieceWord};
+ghost use Rattle.travel.specs.Network.{piece_at, Enters, roads_of};
+ghost use Rattle.travel.specs.Digest.{piece_word};
 ghost use Rattle.travel.specs.Unfolds.{Unfolds};
-ghost use Rattle.travel.specs.Written.{withRoads};
+ghost use Rattle.travel.specs.Written.{with_roads};
 
 use crate::edge::word_in_force;
 use crate::road::road_duration;
@@ -25,9 +25,9 @@ pub struct Unfolded {
 // a path are unfolded, too few for a digest.
 fn word_of(v: &[u8], t: Tables, e: usize, x: u64) -> usize
     requires laid { Laid v.now t }
-    requires sound { Sound (volumeOf v.now) }
-    requires e_bound { e < (volumeOf v.now).edges }
-    ensures { result ≡ pieceWord (volumeOf v.now) (piece_at (volumeOf v.now) e (x % (volumeOf v.now).period)) }
+    requires sound { Sound (volume_of v.now) }
+    requires e_bound { e < (volume_of v.now).edges }
+    ensures { result ≡ piece_word (volume_of v.now) (piece_at (volume_of v.now) e (x % (volume_of v.now).period)) }
 {
     let base = t.pieces;
     let at = base + PIECE_WORDS * edge_first(v, t, e);
@@ -38,9 +38,9 @@ fn word_of(v: &[u8], t: Tables, e: usize, x: u64) -> usize
 // The number of roads of edge e for who enters it at x, and its duration.
 pub fn count_roads(v: &[u8], t: Tables, e: usize, x: u64) -> Unfolded
     requires laid { Laid v.now t }
-    requires sound { Sound (volumeOf v.now) }
-    requires enters { Enters (volumeOf v.now) e x }
-    ensures { Unfolds (volumeOf v.now) e x result }
+    requires sound { Sound (volume_of v.now) }
+    requires enters { Enters (volume_of v.now) e x }
+    ensures { Unfolds (volume_of v.now) e x result }
 {
     let w = word_of(v, t, e, x);
     let left = content(v, w + LEFT) as usize;
@@ -59,11 +59,11 @@ pub fn count_roads(v: &[u8], t: Tables, e: usize, x: u64) -> Unfolded
 // Writes the roads of edge e, for who enters it at x, to the first places of path: answers their number, and the edge's duration.
 pub fn unfold_edge(v: &[u8], t: Tables, e: usize, x: u64, path: &mut [u32]) -> Unfolded
     requires laid { Laid v.now t }
-    requires sound { Sound (volumeOf v.now) }
-    requires enters { Enters (volumeOf v.now) e x }
-    requires x_in_bounds { length (roadsOf (volumeOf v.now) e x) ≤ length path.old }
-    ensures unfolds { Unfolds (volumeOf v.now) e x result }
-    ensures path_after { path.new ≡ withRoads (roadsOf (volumeOf v.now) e x) path.old }
+    requires sound { Sound (volume_of v.now) }
+    requires enters { Enters (volume_of v.now) e x }
+    requires x_in_bounds { length (roads_of (volume_of v.now) e x) ≤ length path.old }
+    ensures unfolds { Unfolds (volume_of v.now) e x result }
+    ensures path_after { path.new ≡ with_roads (roads_of (volume_of v.now) e x) path.old }
 {
     let w = word_of(v, t, e, x);
     let left = content(v, w + LEFT) as usize;

@@ -1,10 +1,10 @@
 // How long a road takes at a second: document 01, "Travel time". A road's points are a row of the table of points.
 ghost use Rattle.std.specs.Prelude.{◌≡◌, ◌^◌, ◌<◌};
-ghost use Rattle.records.specs.Format.{volumeOf, Laid};
+ghost use Rattle.records.specs.Format.{volume_of, Laid};
 ghost use Rattle.volume.specs.Sound.{Sound};
 ghost use Rattle.travel.specs.Road.{between};
-ghost use Rattle.travel.specs.PointsFrom.{PointsFrom, LineFrom, durationOn, Ends};
-ghost use Rattle.travel.specs.Network.{roadTime};
+ghost use Rattle.travel.specs.PointsFrom.{PointsFrom, LineFrom, duration_on, Ends};
+ghost use Rattle.travel.specs.Network.{road_time};
 
 use crate::last::last_at;
 use records::tables::{PERIOD, POINT_WORDS, Tables, point_at, road_at};
@@ -21,9 +21,9 @@ fn line(t0: u64, f0: u64, t1: u64, f1: u64, x: u64) -> u64
 // The duration at x between point i, of the n points from point first on, and its right neighbour.
 fn from_point(v: &[u8], t: Tables, first: usize, n: usize, i: usize, x: u64) -> u64
     requires laid { Laid v.now t }
-    requires points_from { PointsFrom (volumeOf v.now) first n }
-    requires line_from { LineFrom (volumeOf v.now) first n i x }
-    ensures { result ≡ durationOn (volumeOf v.now) first n i x }
+    requires points_from { PointsFrom (volume_of v.now) first n }
+    requires line_from { LineFrom (volume_of v.now) first n i x }
+    ensures { result ≡ duration_on (volume_of v.now) first n i x }
 {
     let a = point_at(v, t, first + i);
     if i + 1 < n {
@@ -43,9 +43,9 @@ fn from_point(v: &[u8], t: Tables, first: usize, n: usize, i: usize, x: u64) -> 
 // The duration of road k for who enters it at x.
 pub fn road_duration(v: &[u8], t: Tables, k: usize, x: u64) -> u64
     requires laid { Laid v.now t }
-    requires sound { Sound (volumeOf v.now) }
-    requires k_bound { k < (volumeOf v.now).roads }
-    ensures { result ≡ roadTime (volumeOf v.now) k x }
+    requires sound { Sound (volume_of v.now) }
+    requires k_bound { k < (volume_of v.now).roads }
+    ensures { result ≡ road_time (volume_of v.now) k x }
 {
     let road = road_at(v, t, k);
     let first = road.first;

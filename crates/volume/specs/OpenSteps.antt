@@ -4,26 +4,26 @@ use Rattle.std.proofs.Math.Path.{◌≡◌, refl}
 use Rattle.std.proofs.Common.{ap, sym, ◌∙◌, arith, leb-true}
 use Rattle.std.proofs.Math.Bool.{true, false}
 use Rattle.block.specs.Choose.{choose_yes, choose_no, both, both_left, both_right}
-use Rattle.block.specs.First.{firstNot}
-use Rattle.records.specs.Format.{Volume, volumeOf, countsOf, Counted, Few, Laid, tables_of, words_in, words_of}
-use Rattle.rules.specs.Rules.{headFits, fewestBlocks, fillerZero, countsRule, allObey, roadsRule, firstRoad, edgesRule, firstEdge}
-use Rattle.volume.specs.Passes.{passOver}
-use Rattle.volume.specs.Open.{recordsOf}
+use Rattle.block.specs.First.{first_not}
+use Rattle.records.specs.Format.{Volume, volume_of, counts_of, Counted, Few, Laid, tables_of, words_in, words_of}
+use Rattle.rules.specs.Rules.{head_fits, fewest_blocks, filler_zero, counts_rule, all_obey, roads_rule, first_road, edges_rule, first_edge}
+use Rattle.volume.specs.Passes.{pass_over}
+use Rattle.volume.specs.Open.{records_of}
 use Rattle.records.specs.declared.tables.Counts.{Counts}
 use Rattle.records.specs.declared.tables.Tables.{Tables}
 use Rattle.volume.specs.declared.road_pass.Pass.TheVariants.{Fine, Fault}
 use Rattle.volume.specs.declared.Opening.TheVariants.{Opened, Refused}
 
 -- the head's limits as facts
-pub head_few : (c : Counts) → headFits c ≡ true → Few c
-unfolding headFits
+pub head_few : (c : Counts) → head_fits c ≡ true → Few c
+unfolding head_fits
 head_few c e =
     let e₁ = both_right (leb 1 c.junctions) _ e in
     let e₂ = both_right (leb c.junctions 1024) _ e₁ in
     let e₃ = both_right (leb c.roads 4096) _ e₂ in
     let e₄ = both_right (leb c.points 65535) _ e₃ in
     record {
-      junctions-some = leb-true 1 c.junctions (both_left (leb 1 c.junctions) _ e);
+      junctions_some = leb-true 1 c.junctions (both_left (leb 1 c.junctions) _ e);
       junctions = leb-true c.junctions 1024 (both_left (leb c.junctions 1024) _ e₁);
       roads = leb-true c.roads 4096 (both_left (leb c.roads 4096) _ e₂);
       points = leb-true c.points 65535 (both_left (leb c.points 65535) _ e₃);
@@ -32,7 +32,7 @@ head_few c e =
     }
 
 -- counts that are the volume's
-pub counted_of : (vol : Volume) (c : Counts) → c ≡ countsOf vol → Counted vol c
+pub counted_of : (vol : Volume) (c : Counts) → c ≡ counts_of vol → Counted vol c
 counted_of vol c e = record {
   junctions = ap (λ (d : Counts). d.junctions) e;
   roads = ap (λ (d : Counts). d.roads) e;
@@ -42,50 +42,50 @@ counted_of vol c e = record {
 }
 
 -- tables that are laid as the counts say
-pub laid_of : (v : List ℕ) (c : Counts) (t : Tables) → c ≡ countsOf (volumeOf v) → t ≡ tables_of c → words_in c ≤ 126 * (length v / 512)
+pub laid_of : (v : List ℕ) (c : Counts) (t : Tables) → c ≡ counts_of (volume_of v) → t ≡ tables_of c → words_in c ≤ 126 * (length v / 512)
     → Few c → Laid v t
 laid_of v c t e h room few =
-    let n = counted_of (volumeOf v) c e in
+    let n = counted_of (volume_of v) c e in
     let p = ap (λ (s : Tables). s.points) h in
     let q = ap (λ (s : Tables). s.edges) h in
     let r = ap (λ (s : Tables). s.pieces) h in
     record { points = omega arith; edges = omega arith; pieces = omega arith; room = omega arith; limit = omega (arith, few.roads, few.points, few.edges, few.pieces) }
 
 -- the test of the counts, from what is read
-pub counts-rule : (v : List ℕ) (c : Counts) (words blocks : ℕ) → c ≡ countsOf (volumeOf v) → words ≡ words_in c
-    → countsRule v (volumeOf v) blocks ≡ both (headFits c) (both (fewestBlocks words blocks) (fillerZero v words blocks))
-unfolding countsRule
-counts-rule v c words blocks e h = let w : words_of (volumeOf v) ≡ words = ap words_in (sym e) ∙ sym h in (cc)
+pub counts_rule_lem : (v : List ℕ) (c : Counts) (words blocks : ℕ) → c ≡ counts_of (volume_of v) → words ≡ words_in c
+    → counts_rule v (volume_of v) blocks ≡ both (head_fits c) (both (fewest_blocks words blocks) (filler_zero v words blocks))
+unfolding counts_rule
+counts_rule_lem v c words blocks e h = let w : words_of (volume_of v) ≡ words = ap words_in (sym e) ∙ sym h in (cc)
 
 -- what a pass says
 module _ (rule : ℕ → Bool) (first number : ℕ → ℕ) (n total : ℕ) where
-  pub pass-faulty : (k : ℕ) → Fault k ≡ passOver rule first number n total
-      → (allObey rule first number n total ≡ false) × (k ≡ firstNot rule n 0)
-  unfolding passOver
-  pass-faulty k h = go (allObey rule first number n total) refl
+  pub pass_faulty : (k : ℕ) → Fault k ≡ pass_over rule first number n total
+      → (all_obey rule first number n total ≡ false) × (k ≡ first_not rule n 0)
+  unfolding pass_over
+  pass_faulty k h = go (all_obey rule first number n total) refl
     where
-      go : (t : Bool) → allObey rule first number n total ≡ t → (allObey rule first number n total ≡ false) × (k ≡ firstNot rule n 0)
-      go true q = absurd (let r = h ∙ choose_yes Fine (Fault (firstNot rule n 0)) q in let z : ◌≡◌ {A = ℕ} 0 1 = (cc) in omega arith)
-      go false q = (q, (let r = h ∙ choose_no Fine (Fault (firstNot rule n 0)) q in (cc)))
+      go : (t : Bool) → all_obey rule first number n total ≡ t → (all_obey rule first number n total ≡ false) × (k ≡ first_not rule n 0)
+      go true q = absurd (let r = h ∙ choose_yes Fine (Fault (first_not rule n 0)) q in let z : ◌≡◌ {A = ℕ} 0 1 = (cc) in omega arith)
+      go false q = (q, (let r = h ∙ choose_no Fine (Fault (first_not rule n 0)) q in (cc)))
 
-  pub pass-whole : Fine ≡ passOver rule first number n total → allObey rule first number n total ≡ true
-  unfolding passOver
-  pass-whole h = go (allObey rule first number n total) refl
+  pub pass_whole : Fine ≡ pass_over rule first number n total → all_obey rule first number n total ≡ true
+  unfolding pass_over
+  pass_whole h = go (all_obey rule first number n total) refl
     where
-      go : (t : Bool) → allObey rule first number n total ≡ t → allObey rule first number n total ≡ true
+      go : (t : Bool) → all_obey rule first number n total ≡ t → all_obey rule first number n total ≡ true
       go true q = q
-      go false q = absurd (let r = h ∙ choose_no Fine (Fault (firstNot rule n 0)) q in let z : ◌≡◌ {A = ℕ} 0 1 = (cc) in omega arith)
+      go false q = absurd (let r = h ∙ choose_no Fine (Fault (first_not rule n 0)) q in let z : ◌≡◌ {A = ℕ} 0 1 = (cc) in omega arith)
 
 -- the three ways through the records
 
-pub records-road : (vol : Volume) (k : ℕ) → roadsRule vol ≡ false → k ≡ firstRoad vol → recordsOf vol ≡ Refused 5 k
-unfolding recordsOf
-records-road vol k q e = choose_no _ _ q ∙ ap (Refused 5) (sym e)
+pub records_road : (vol : Volume) (k : ℕ) → roads_rule vol ≡ false → k ≡ first_road vol → records_of vol ≡ Refused 5 k
+unfolding records_of
+records_road vol k q e = choose_no _ _ q ∙ ap (Refused 5) (sym e)
 
-pub records-edge : (vol : Volume) (k : ℕ) → roadsRule vol ≡ true → edgesRule vol ≡ false → k ≡ firstEdge vol → recordsOf vol ≡ Refused 6 k
-unfolding recordsOf
-records-edge vol k p q e = choose_yes _ _ p ∙ choose_no _ _ q ∙ ap (Refused 6) (sym e)
+pub records_edge : (vol : Volume) (k : ℕ) → roads_rule vol ≡ true → edges_rule vol ≡ false → k ≡ first_edge vol → records_of vol ≡ Refused 6 k
+unfolding records_of
+records_edge vol k p q e = choose_yes _ _ p ∙ choose_no _ _ q ∙ ap (Refused 6) (sym e)
 
-pub records-fine : (vol : Volume) (c : Counts) → roadsRule vol ≡ true → edgesRule vol ≡ true → c ≡ countsOf vol → recordsOf vol ≡ Opened c
-unfolding recordsOf
-records-fine vol c p q e = choose_yes _ _ p ∙ choose_yes _ _ q ∙ ap Opened (sym e)
+pub records_fine : (vol : Volume) (c : Counts) → roads_rule vol ≡ true → edges_rule vol ≡ true → c ≡ counts_of vol → records_of vol ≡ Opened c
+unfolding records_of
+records_fine vol c p q e = choose_yes _ _ p ∙ choose_yes _ _ q ∙ ap Opened (sym e)

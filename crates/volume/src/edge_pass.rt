@@ -1,7 +1,7 @@
 // The pass over the edges, and the lists that it works with.
 ghost use Rattle.std.specs.Prelude.{◌≡◌, ◌*◌, ◌≤◌, length};
-ghost use Rattle.records.specs.Format.{volumeOf, Counted, Few, Laid};
-ghost use Rattle.volume.specs.Passes.{edgesPass};
+ghost use Rattle.records.specs.Format.{volume_of, Counted, Few, Laid};
+ghost use Rattle.volume.specs.Passes.{edges_pass};
 ghost use Rattle.volume.specs.Repeats.{Stamped, FirstRepeat};
 
 use crate::repeats::first_repeat;
@@ -15,11 +15,11 @@ use rules::kept::keep;
 // are left over. It keeps what later pairs ask of an edge.
 fn pass_keeping(v: &[u8], t: Tables, c: Counts, repeat: usize, kept: &mut [u16]) -> Pass
     requires laid { Laid v.now t }
-    requires counted { Counted (volumeOf v.now) c }
+    requires counted { Counted (volume_of v.now) c }
     requires few { Few c }
-    requires first_repeat { FirstRepeat (volumeOf v.now) repeat }
+    requires first_repeat { FirstRepeat (volume_of v.now) repeat }
     requires edges_in_bounds { 3 * c.edges ≤ length kept.old }
-    ensures { result ≡ edgesPass (volumeOf v.now) }
+    ensures { result ≡ edges_pass (volume_of v.now) }
 {
     let mut begin: usize = 0;
     let mut e: usize = 0;
@@ -50,11 +50,11 @@ fn pass_within(
     list: &mut [u16],
 ) -> Pass
     requires laid { Laid v.now t }
-    requires counted { Counted (volumeOf v.now) c }
+    requires counted { Counted (volume_of v.now) c }
     requires few { Few c }
     requires junctions_in_bounds { (c.junctions ≤ length first.old) × (3 * c.edges ≤ length list.old) }
     requires stamped { Stamped c.junctions 0 stamps.old }
-    ensures { result ≡ edgesPass (volumeOf v.now) }
+    ensures { result ≡ edges_pass (volume_of v.now) }
 {
     index_edges(v, t, c, first, list);
     let repeat = first_repeat(v, t, c, first, list, stamps);
@@ -64,10 +64,10 @@ fn pass_within(
 // The same for few junctions and edges, whose lists are soon made.
 fn pass_few(v: &[u8], t: Tables, c: Counts) -> Pass
     requires laid { Laid v.now t }
-    requires counted { Counted (volumeOf v.now) c }
+    requires counted { Counted (volume_of v.now) c }
     requires few { Few c }
     requires junctions_bound { (c.junctions ≤ 64) × (c.edges ≤ 64) }
-    ensures { result ≡ edgesPass (volumeOf v.now) }
+    ensures { result ≡ edges_pass (volume_of v.now) }
 {
     let mut first = [0u16; 64];
     let mut stamps = [0u16; 64];
@@ -78,10 +78,10 @@ fn pass_few(v: &[u8], t: Tables, c: Counts) -> Pass
 // The same for any number of junctions.
 fn pass_many(v: &[u8], t: Tables, c: Counts, list: &mut [u16]) -> Pass
     requires laid { Laid v.now t }
-    requires counted { Counted (volumeOf v.now) c }
+    requires counted { Counted (volume_of v.now) c }
     requires few { Few c }
     requires edges_in_bounds { 3 * c.edges ≤ length list.old }
-    ensures { result ≡ edgesPass (volumeOf v.now) }
+    ensures { result ≡ edges_pass (volume_of v.now) }
 {
     let mut first = [0u16; 1024];
     let mut stamps = [0u16; 1024];
@@ -92,9 +92,9 @@ fn pass_many(v: &[u8], t: Tables, c: Counts, list: &mut [u16]) -> Pass
 // to read, so fewer edges get shorter lists.
 pub fn edges_pass(v: &[u8], t: Tables, c: Counts) -> Pass
     requires laid { Laid v.now t }
-    requires counted { Counted (volumeOf v.now) c }
+    requires counted { Counted (volume_of v.now) c }
     requires few { Few c }
-    ensures { result ≡ edgesPass (volumeOf v.now) }
+    ensures { result ≡ edges_pass (volume_of v.now) }
 {
     if c.edges <= 64 {
         if c.junctions <= 64 {

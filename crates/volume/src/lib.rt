@@ -3,9 +3,9 @@
 // `travel`.
 ghost use Rattle.std.specs.Prelude.{◌≡◌, ◌*◌, ◌/◌, ◌≤◌, length};
 ghost use Rattle.block.specs.Choose.{choose};
-ghost use Rattle.records.specs.Format.{volumeOf, countsOf, tables_of, Few, Laid};
-ghost use Rattle.rules.specs.Rules.{headFits, fillerZero, countsRule};
-ghost use Rattle.volume.specs.Open.{recordsOf, openOf};
+ghost use Rattle.records.specs.Format.{volume_of, counts_of, tables_of, Few, Laid};
+ghost use Rattle.rules.specs.Rules.{head_fits, filler_zero, counts_rule};
+ghost use Rattle.volume.specs.Open.{records_of, open_of};
 
 use crate::edge_pass::edges_pass;
 use crate::road_pass::{Pass, roads_pass};
@@ -25,7 +25,7 @@ pub enum Opening {
 // N, R, P, E and Q as the head says.
 fn head(v: &[u8]) -> Counts
     requires { 512 ≤ length v.now }
-    ensures { result ≡ countsOf (volumeOf v.now) }
+    ensures { result ≡ counts_of (volume_of v.now) }
 {
     Counts {
         junctions: content(v, 1) as usize,
@@ -39,15 +39,15 @@ fn head(v: &[u8]) -> Counts
 // Where the tables of a volume within the limits begin, as its head says.
 pub fn tables_in(v: &[u8]) -> Tables
     requires in_bounds { 512 ≤ length v.now }
-    requires few { Few (countsOf (volumeOf v.now)) }
-    ensures { result ≡ tables_of (countsOf (volumeOf v.now)) }
+    requires few { Few (counts_of (volume_of v.now)) }
+    ensures { result ≡ tables_of (counts_of (volume_of v.now)) }
 {
     tables_of(head(v))
 }
 
 // Are the counts within the limits?
 fn head_fits(c: Counts) -> bool
-    ensures { result ≡ headFits c }
+    ensures { result ≡ head_fits c }
 {
     if 1 <= c.junctions {
         if c.junctions <= 1024 {
@@ -66,7 +66,7 @@ fn head_fits(c: Counts) -> bool
 // Are the content words of n blocks zero from word `words` on?
 fn filler_zero(v: &[u8], words: usize, blocks: usize) -> bool
     requires { (512 * blocks ≤ length v.now) × (words ≤ 126 * blocks) × (blocks ≤ 3381) }
-    ensures { result ≡ fillerZero v.now words blocks }
+    ensures { result ≡ filler_zero v.now words blocks }
 {
     let n = 126 * blocks - words;
     let mut i: usize = 0;
@@ -82,9 +82,9 @@ fn filler_zero(v: &[u8], words: usize, blocks: usize) -> bool
 // Roads, then edges.
 fn open_records(v: &[u8], t: Tables, c: Counts) -> Opening
     requires laid { Laid v.now t }
-    requires c_value { c ≡ countsOf (volumeOf v.now) }
+    requires c_value { c ≡ counts_of (volume_of v.now) }
     requires few { Few c }
-    ensures { result ≡ recordsOf (volumeOf v.now) }
+    ensures { result ≡ records_of (volume_of v.now) }
 {
     let roads = roads_pass(v, t, c);
     if let Pass::Fault(k) = roads {
@@ -100,7 +100,7 @@ fn open_records(v: &[u8], t: Tables, c: Counts) -> Opening
 // Head, block count and filler, then the records.
 fn open_counts(v: &[u8], blocks: usize) -> Opening
     requires { (blocks ≡ length v.now / 512) × (512 ≤ length v.now) }
-    ensures { result ≡ choose (countsRule v.now (volumeOf v.now) blocks) (recordsOf (volumeOf v.now)) (Opening.Refused 4 0) }
+    ensures { result ≡ choose (counts_rule v.now (volume_of v.now) blocks) (records_of (volume_of v.now)) (Opening.Refused 4 0) }
 {
     let c = head(v);
     if !head_fits(c) {
@@ -118,7 +118,7 @@ fn open_counts(v: &[u8], blocks: usize) -> Opening
 
 // Opens a volume: its counts, or the first refusal with its place.
 pub fn open(v: &[u8]) -> Opening
-    ensures { result ≡ openOf v.now }
+    ensures { result ≡ open_of v.now }
 {
     let size = v.len();
     if !is_whole(size) {

@@ -1,16 +1,16 @@
 // The first edge whose two ends an earlier edge has, found in one walk over the edges of each junction: a junction that an edge
 // reaches is stamped with where the edge begins, so that a second such edge finds the stamp.
 ghost use Rattle.std.specs.Prelude.{◌≡◌, ◌+◌, ◌≤◌, ◌<◌, length};
-ghost use Rattle.records.specs.Format.{volumeOf, Counted, Few, Laid};
+ghost use Rattle.records.specs.Format.{volume_of, Counted, Few, Laid};
 ghost use Rattle.records.specs.Index.{Linked};
-ghost use Rattle.volume.specs.Repeats.{bears, stampedOn, Stamped, LeastBelow, FirstRepeat};
+ghost use Rattle.volume.specs.Repeats.{bears, stamped_on, Stamped, LeastBelow, FirstRepeat};
 
 use records::tables::{Counts, Tables, edge_to};
 
 // Stamps junction w, if it lies below n: did it bear the stamp already?
 fn stamp_on(stamps: &mut [u16], n: usize, w: usize, stamp: u16) -> bool
     requires { n ≤ length stamps.old }
-    ensures { (result ≡ bears stamps.old n w stamp) × (stamps.new ≡ stampedOn stamps.old n w stamp) }
+    ensures { (result ≡ bears stamps.old n w stamp) × (stamps.new ≡ stamped_on stamps.old n w stamp) }
 {
     if n <= w {
         return false;
@@ -34,11 +34,11 @@ fn repeat_from(
     least: usize,
 ) -> usize
     requires laid { Laid v.now t }
-    requires linked { Linked (volumeOf v.now) first.now next.now }
-    requires n_bound { (n ≤ 1024) × (u < n) × (n ≤ (volumeOf v.now).junctions) × ((volumeOf v.now).junctions ≤ n) }
+    requires linked { Linked (volume_of v.now) first.now next.now }
+    requires n_bound { (n ≤ 1024) × (u < n) × (n ≤ (volume_of v.now).junctions) × ((volume_of v.now).junctions ≤ n) }
     requires stamped { Stamped n u stamps.old }
-    requires least_below { LeastBelow (volumeOf v.now) u least }
-    ensures least_below_2 { LeastBelow (volumeOf v.now) (u + 1) result }
+    requires least_below { LeastBelow (volume_of v.now) u least }
+    ensures least_below_2 { LeastBelow (volume_of v.now) (u + 1) result }
     ensures stamped_2 { Stamped n (u + 1) stamps.new }
 {
     let stamp = (u + 1) as u16;
@@ -62,11 +62,11 @@ pub fn first_repeat(
     stamps: &mut [u16],
 ) -> usize
     requires laid { Laid v.now t }
-    requires counted { Counted (volumeOf v.now) c }
+    requires counted { Counted (volume_of v.now) c }
     requires few { Few c }
-    requires linked { Linked (volumeOf v.now) first.now next.now }
+    requires linked { Linked (volume_of v.now) first.now next.now }
     requires stamped { Stamped c.junctions 0 stamps.old }
-    ensures first_repeat { FirstRepeat (volumeOf v.now) result }
+    ensures first_repeat { FirstRepeat (volume_of v.now) result }
     ensures stamped_2 { Stamped c.junctions c.junctions stamps.new }
 {
     let n = c.junctions;

@@ -1,7 +1,7 @@
 // The pass over the roads, and what a pass finds.
 ghost use Rattle.std.specs.Prelude.{◌≡◌};
-ghost use Rattle.records.specs.Format.{volumeOf, Counted, Laid};
-ghost use Rattle.volume.specs.Passes.{roadsPass};
+ghost use Rattle.records.specs.Format.{volume_of, Counted, Laid};
+ghost use Rattle.volume.specs.Passes.{roads_pass};
 
 use records::tables::{Counts, Tables, road_at};
 use rules::roads::road_fits;
@@ -16,8 +16,8 @@ pub enum Pass {
 // The pass over all roads: the first at fault, or R where points are left over.
 pub fn roads_pass(v: &[u8], t: Tables, c: Counts) -> Pass
     requires laid { Laid v.now t }
-    requires counted { Counted (volumeOf v.now) c }
-    ensures { result ≡ roadsPass (volumeOf v.now) }
+    requires counted { Counted (volume_of v.now) c }
+    ensures { result ≡ roads_pass (volume_of v.now) }
 {
     let n = c.roads;
     let mut begin: usize = 0;

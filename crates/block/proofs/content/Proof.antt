@@ -1,5 +1,5 @@
 use Rattle.std.proofs.Common.{◌≡◌, ◌+◌, ◌*◌, ◌/◌, ◌%◌, ap, ◌∙◌, arith, rules}
-use Rattle.block.specs.Word.{wordFrom, word_at, blockWord, contentAt}
+use Rattle.block.specs.Word.{word_from, word_at, block_word, content_at}
 use Rattle.block.proofs.content.Statement.{statement}
 use Rattle.block.proofs.content.Tie as tie
 
@@ -19,12 +19,12 @@ word-from-requires : tie.Need-word-from-requires
 word-from-requires c κs = search rules
 
 returns : tie.Need-returns
-unfolding contentAt blockWord word_at
+unfolding content_at block_word word_at
 returns c =
     let a = c.before.before.before.args in
     let k = c.before.Block-of in
     let e : 4 * a.w + 8 * k.result ≡ 4 * (128 * (a.w / 126) + a.w % 126) = omega (arith, k.ensures) in
-    c.word-from.ensures ∙ ap (wordFrom a.v.now) e
+    c.word-from.ensures ∙ ap (word_from a.v.now) e
 
 pub content-spec : {M : Type 1} → statement M
 content-spec =

@@ -1,5 +1,5 @@
 use Rattle.std.proofs.Common.{◌≡◌, ℕ, ◌+◌, ◌*◌, ◌/◌, ◌%◌, ap, ◌∙◌, arith, rules}
-use Rattle.block.specs.Word.{wordFrom, word_at, blockWord, contentAt}
+use Rattle.block.specs.Word.{word_from, word_at, block_word, content_at}
 use Rattle.block.proofs.content_pair.Statement.{statement}
 use Rattle.block.proofs.content_pair.Tie as tie
 
@@ -29,7 +29,7 @@ word-from-requires-2 : tie.Need-word-from-requires-2
 word-from-requires-2 c κs = search rules
 
 returns : tie.Need-returns
-unfolding contentAt blockWord word_at
+unfolding content_at block_word word_at
 returns c =
     let s = c.before.before.before.before in
     let v = s.args.v.now in
@@ -37,7 +37,7 @@ returns c =
     let k = c.before.before.Block-of in
     let e : 4 * w + 8 * k.result ≡ 4 * (128 * (w / 126) + w % 126) = omega (arith, k.ensures) in
     let f : 4 * w + 8 * k.result + 4 ≡ 4 * (128 * ((w + 1) / 126) + (w + 1) % 126) = omega (arith, e, next w s.requires.0) in
-    (c.before.word-from.ensures ∙ ap (wordFrom v) e, c.word-from2.ensures ∙ ap (wordFrom v) f)
+    (c.before.word-from.ensures ∙ ap (word_from v) e, c.word-from2.ensures ∙ ap (word_from v) f)
 
 pub content-pair-spec : {M : Type 1} → statement M
 content-pair-spec =

@@ -1,6 +1,6 @@
 use Rattle.std.proofs.Common.{◌-◌, ◌≤◌, sym, ◌∙◌, rules}
 use borrow.Author.Tests.{not-true, not-false}
-use Rattle.block.specs.First.{Passed, first-start, first-go, first-stop, first-end}
+use Rattle.block.specs.First.{Passed, first_start, first_go, first_stop, first_end}
 use Rattle.block.specs.Good.{good}
 use Rattle.block.proofs.first_bad.Statement.{statement}
 use Rattle.block.proofs.first_bad.Tie as tie
@@ -12,7 +12,7 @@ abbrev decreases-loop : tie.decreases-loop
 decreases-loop v n k₀ k = n - k
 
 loop-holds : tie.Need-loop-init invariant-loop decreases-loop
-loop-holds c = (search rules, first-start (good c.before.args.v.now) c.before.args.n)
+loop-holds c = (search rules, first_start (good c.before.args.v.now) c.before.args.n)
 
 sums-of-requires : tie.Need-sums-of-requires invariant-loop decreases-loop
 sums-of-requires c κs = search rules
@@ -25,7 +25,7 @@ returns c =
     let l = c.before.before.before.before in
     let a = l.before.before.args in
     let bad = sym c.before.carries.ensures ∙ not-true _ c.if1.true in
-    (first-stop (good a.v.now) a.n l.loop.k (search rules) bad l.loop.invariant.1, search rules)
+    (first_stop (good a.v.now) a.n l.loop.k (search rules) bad l.loop.invariant.1, search rules)
 
 add-k : tie.Need-overflow-add-k invariant-loop decreases-loop
 add-k c = search rules
@@ -38,13 +38,13 @@ loop-again c =
     let l = c.before.before.before.before in
     let a = l.before.before.args in
     let fine = sym c.before.carries.ensures ∙ not-false _ c.if1.false in
-    (search rules, first-go (good a.v.now) a.n l.loop.k (search rules) fine l.loop.invariant.1)
+    (search rules, first_go (good a.v.now) a.n l.loop.k (search rules) fine l.loop.invariant.1)
 
 returns-2 : tie.Need-returns-2 invariant-loop decreases-loop
 returns-2 c =
     let l = c.before in
     let a = l.before.before.args in
-    (first-end (good a.v.now) a.n l.loop.k (search rules) l.loop.invariant.1, search rules)
+    (first_end (good a.v.now) a.n l.loop.k (search rules) l.loop.invariant.1, search rules)
 
 pub first-bad-spec : {M : Type 1} → statement M
 first-bad-spec =

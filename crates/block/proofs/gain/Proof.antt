@@ -9,7 +9,7 @@ wrapping-add-u32-requires-2 : tie.Need-wrapping-add-u32-requires-2
 wrapping-add-u32-requires-2 c κs = search rules
 
 returns : tie.Need-returns
-returns c = record { a-is = c.before.wrapping-add-u32.ensures; b-is = c.wrapping-add-u322.ensures }
+returns c = record { a_is = c.before.wrapping-add-u32.ensures; b_is = c.wrapping-add-u322.ensures }
 
 pub gain-spec : {M : Type 1} → statement M
 gain-spec = tie.close (tie.spec wrapping-add-u32-requires wrapping-add-u32-requires-2 returns)

@@ -1,5 +1,5 @@
 use Rattle.std.proofs.Common.{rules}
-use Rattle.block.specs.Lanes.{behind, fourfold, a-joined, b-joined}
+use Rattle.block.specs.Lanes.{behind, fourfold, a_joined, b_joined}
 use Rattle.block.proofs.join.Statement.{statement}
 use Rattle.block.proofs.join.Tie as tie
 
@@ -72,9 +72,9 @@ returns c =
     fourfold _ _ _ _ _ _ _ _ _ add₁.wrapping-add-u32.ensures add₂.wrapping-add-u322.ensures
     add₃.wrapping-add-u323.ensures add₄.wrapping-add-u324.ensures add₆.wrapping-add-u326.ensures in
     record {
-      a-is = a-joined _ _ _ _ _ _ add₅.wrapping-add-u325.ensures h.a-is add₇.wrapping-add-u327.ensures;
-      b-is = b-joined _ _ _ _ _ _ _ sub.wrapping-sub-u32.ensures h.b-is four c.wrapping-add-u328.ensures;
-      b-fits = c.wrapping-add-u328.type-inv;
+      a_is = a_joined _ _ _ _ _ _ add₅.wrapping-add-u325.ensures h.a_is add₇.wrapping-add-u327.ensures;
+      b_is = b_joined _ _ _ _ _ _ _ sub.wrapping-sub-u32.ensures h.b_is four c.wrapping-add-u328.ensures;
+      b_fits = c.wrapping-add-u328.type-inv;
     }
 
 pub join-spec : {M : Type 1} → statement M

@@ -1,5 +1,5 @@
 use Rattle.std.proofs.Common.{refl, arith, length-set, rules}
-use Rattle.block.specs.Word.{putWord}
+use Rattle.block.specs.Word.{put_word}
 use Rattle.block.proofs.put_word.Statement.{statement}
 use Rattle.block.proofs.put_word.Tie as tie
 
@@ -43,7 +43,7 @@ same_length : tie.Need-same-length
 same_length c = search rules
 
 returns : tie.Need-returns
-unfolding putWord
+unfolding put_word
 returns c = refl
 
 pub put-word-spec : {M : Type 1} → statement M

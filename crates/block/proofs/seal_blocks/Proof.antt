@@ -1,16 +1,16 @@
 use Rattle.std.proofs.Common.{◌≡◌, ◌-◌, ◌≤◌, length, refl, arith, rules}
-use Rattle.block.specs.Seal.{sealTo, sealTo-next}
+use Rattle.block.specs.Seal.{seal_to, seal_to_next}
 use Rattle.block.proofs.seal_blocks.Statement.{statement}
 use Rattle.block.proofs.seal_blocks.Tie as tie
 
 abbrev invariant-loop : tie.invariant-loop
-invariant-loop v₀ n k₀ v k = (k ≤ n) × (v ≡ sealTo v₀ k) × (length v ≡ length v₀)
+invariant-loop v₀ n k₀ v k = (k ≤ n) × (v ≡ seal_to v₀ k) × (length v ≡ length v₀)
 
 abbrev decreases-loop : tie.decreases-loop
 decreases-loop v₀ n k₀ v k = n - k
 
 loop-holds : tie.Need-loop-init invariant-loop decreases-loop
-unfolding sealTo
+unfolding seal_to
 loop-holds c = (search rules, refl, refl)
 
 sums-of-requires : tie.Need-sums-of-requires invariant-loop decreases-loop
@@ -43,7 +43,7 @@ loop-less c = search rules
 loop-again : tie.Need-loop-preserved invariant-loop decreases-loop
 loop-again c =
     let s = c.before.before.before.before.before.before.before.before.before.before.before in
-    (search rules, cc (sealTo-next s.before.before.args.v.now s.loop.k), search rules)
+    (search rules, cc (seal_to_next s.before.before.args.v.now s.loop.k), search rules)
 
 same_length : tie.Need-same-length invariant-loop decreases-loop
 same_length c = search rules

@@ -1,7 +1,7 @@
 use Rattle.std.proofs.Common.{◌≡◌, ◌-◌, ◌≤◌, arith, rules}
-use Rattle.block.specs.Word.{blockWord}
-use Rattle.block.specs.Sums.{summed-next}
-use Rattle.block.specs.Lanes.{LaneTo, lane-start, lane-next, summed-lanes}
+use Rattle.block.specs.Word.{block_word}
+use Rattle.block.specs.Sums.{summed_next}
+use Rattle.block.specs.Lanes.{LaneTo, lane_start, lane_next, summed_lanes}
 use Rattle.block.proofs.sums_of.Statement.{statement}
 use Rattle.block.proofs.sums_of.Tie as tie
 
@@ -31,10 +31,10 @@ loop-holds c =
     let n₁ = n₂.before in
     let a = n₁.before.before.args in (
       search rules,
-      lane-start a.v.now a.k 0 _ n₁.nothing.ensures.0 n₁.nothing.ensures.1,
-      lane-start a.v.now a.k 1 _ n₂.nothing2.ensures.0 n₂.nothing2.ensures.1,
-      lane-start a.v.now a.k 2 _ n₃.nothing3.ensures.0 n₃.nothing3.ensures.1,
-      lane-start a.v.now a.k 3 _ c.nothing4.ensures.0 c.nothing4.ensures.1,
+      lane_start a.v.now a.k 0 _ n₁.nothing.ensures.0 n₁.nothing.ensures.1,
+      lane_start a.v.now a.k 1 _ n₂.nothing2.ensures.0 n₂.nothing2.ensures.1,
+      lane_start a.v.now a.k 2 _ n₃.nothing3.ensures.0 n₃.nothing3.ensures.1,
+      lane_start a.v.now a.k 3 _ c.nothing4.ensures.0 c.nothing4.ensures.1,
     )
 
 mul_at : tie.Need-overflow-mul-at invariant-loop decreases-loop
@@ -100,10 +100,10 @@ loop-again c =
     let i = l.loop.i in
     let h = l.loop.invariant in (
       search rules,
-      lane-next v a.k 0 i _ _ _ _ h.1 (omega arith) w₀.word.ensures g₀.gain.ensures,
-      lane-next v a.k 1 i _ _ _ _ h.2 (omega arith) w₁.word2.ensures g₁.gain2.ensures,
-      lane-next v a.k 2 i _ _ _ _ h.3 (omega arith) w₂.word3.ensures g₂.gain3.ensures,
-      lane-next v a.k 3 i _ _ _ _ h.4 (omega arith) w₃.word4.ensures c.gain4.ensures,
+      lane_next v a.k 0 i _ _ _ _ h.1 (omega arith) w₀.word.ensures g₀.gain.ensures,
+      lane_next v a.k 1 i _ _ _ _ h.2 (omega arith) w₁.word2.ensures g₁.gain2.ensures,
+      lane_next v a.k 2 i _ _ _ _ h.3 (omega arith) w₂.word3.ensures g₂.gain3.ensures,
+      lane_next v a.k 3 i _ _ _ _ h.4 (omega arith) w₃.word4.ensures c.gain4.ensures,
     )
 
 mul-word : tie.Need-overflow-mul-word invariant-loop decreases-loop
@@ -134,7 +134,7 @@ gain-requires-6 : tie.Need-gain-requires-6 invariant-loop decreases-loop
 gain-requires-6 c κs = search rules
 
 returns : tie.Need-returns invariant-loop decreases-loop
-unfolding blockWord
+unfolding block_word
 returns c =
     let g₅ = c.before in
     let j = g₅.before in
@@ -146,9 +146,9 @@ returns c =
     let k = s.args.k in
     let e : l.loop.i ≡ 31 = omega arith in
     let h = rw e at l.loop.invariant in
-    let lanes = summed-lanes v k _ _ _ _ _ s.requires.1 h.1 h.2 h.3 h.4 j.join.ensures in
-    let next = summed-next v k 124 _ _ _ lanes w₅.word5.ensures g₅.gain5.ensures in
-    summed-next v k 125 _ _ _ next w₆.word6.ensures c.gain6.ensures
+    let lanes = summed_lanes v k _ _ _ _ _ s.requires.1 h.1 h.2 h.3 h.4 j.join.ensures in
+    let next = summed_next v k 124 _ _ _ lanes w₅.word5.ensures g₅.gain5.ensures in
+    summed_next v k 125 _ _ _ next w₆.word6.ensures c.gain6.ensures
 
 pub sums-of-spec : {M : Type 1} → statement M
 sums-of-spec =

@@ -1,5 +1,5 @@
 use Rattle.std.proofs.Common.{arith, rules}
-use Rattle.block.specs.Word.{wordFrom}
+use Rattle.block.specs.Word.{word_from}
 use Rattle.block.proofs.word_from.Statement.{statement}
 use Rattle.block.proofs.word_from.Tie as tie
 
@@ -55,7 +55,7 @@ add-result-3 : tie.Need-overflow-add-result-3
 add-result-3 c = search rules
 
 returns : tie.Need-returns
-unfolding wordFrom
+unfolding word_from
 returns c = omega arith
 
 pub word-from-spec : {M : Type 1} → statement M

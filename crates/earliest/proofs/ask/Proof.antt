@@ -1,5 +1,5 @@
 use borrow.Author.Rules.{rules}
-use Rattle.telling.specs.Room.{roads-fit}
+use Rattle.telling.specs.Room.{roads_fit}
 use Rattle.earliest.proofs.ask.Statement.{statement}
 use Rattle.earliest.proofs.ask.Tie as tie
 
@@ -44,7 +44,7 @@ returns c = search rules
 
 closed-requires : tie.Need-closed-requires
 closed-requires c κs =
-    roads-fit c.before.before.before.before.before.before.before.before.search.ensures _ _ _ c.before.before.answer.given.1
+    roads_fit c.before.before.before.before.before.before.before.before.search.ensures _ _ _ c.before.before.answer.given.1
 
 same-length-3 : tie.Need-same-length-3
 same-length-3 c = search rules

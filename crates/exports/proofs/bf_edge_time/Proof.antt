@@ -1,13 +1,13 @@
 use mathlib.Core.Path.{ap, ◌∙◌}
 use borrow.Author.Rules.{rules}
 use Rattle.travel.specs.declared.Timing.{Timing}
-use Rattle.exports.specs.Numbers.{timingTold}
-use Rattle.exports.specs.Told.{toldNumber, toldPlaces, tells-not}
+use Rattle.exports.specs.Numbers.{timing_told}
+use Rattle.exports.specs.Told.{told_number, told_places, tells_not}
 use Rattle.exports.proofs.bf_edge_time.Statement.{statement}
 use Rattle.exports.proofs.bf_edge_time.Tie as tie
 
 returns : tie.Need-returns
-returns c = tells-not _ _ c.if1.true
+returns c = tells_not _ _ c.if1.true
 
 edge-time-requires : tie.Need-edge-time-requires
 edge-time-requires c κs = search rules
@@ -23,8 +23,8 @@ returns-2 c =
     let out = c.before.before.before.before.before.before.before.before.args.out.now in
     let t = c.before.before.before.before.edge-time.ensures in
     let told = c.before.before.tell-time.ensures in (
-      told.0 ∙ ap (λ (r : Timing). toldNumber out (timingTold r)) t,
-      told.1 ∙ ap (λ (r : Timing). toldPlaces out (timingTold r)) t,
+      told.0 ∙ ap (λ (r : Timing). told_number out (timing_told r)) t,
+      told.1 ∙ ap (λ (r : Timing). told_places out (timing_told r)) t,
     )
 
 pub bf-edge-time-spec : {M : Type 1} → statement M

@@ -1,12 +1,12 @@
 use mathlib.Core.Path.{ap, sym, ◌∙◌}
 use borrow.Author.Rules.{rules}
-use Rattle.exports.specs.Numbers.{openingTold}
-use Rattle.exports.specs.Told.{tells, tells-not}
+use Rattle.exports.specs.Numbers.{opening_told}
+use Rattle.exports.specs.Told.{tells, tells_not}
 use Rattle.exports.proofs.bf_open.Statement.{statement}
 use Rattle.exports.proofs.bf_open.Tie as tie
 
 returns : tie.Need-returns
-returns c = tells-not _ _ c.if1.true
+returns c = tells_not _ _ c.if1.true
 
 open-requires : tie.Need-open-requires
 open-requires c κs = search rules
@@ -29,7 +29,7 @@ same_length c = search rules
 returns-2 : tie.Need-returns-2
 returns-2 c =
     let o = c.before.before.before.before.before.before.before.«open».ensures in
-    tells _ _ _ _ (ap openingTold (sym c.before.before.before.before.before.opening.given.1 ∙ o)) (search rules) c.before.before.tell-five.ensures
+    tells _ _ _ _ (ap opening_told (sym c.before.before.before.before.before.opening.given.1 ∙ o)) (search rules) c.before.before.tell-five.ensures
 
 same-length-2 : tie.Need-same-length-2
 same-length-2 c = search rules
@@ -37,7 +37,7 @@ same-length-2 c = search rules
 returns-3 : tie.Need-returns-3
 returns-3 c =
     let o = c.before.before.before.before.before.before.before.«open».ensures in
-    tells _ _ _ _ (ap openingTold (sym c.before.before.before.before.before.opening2.given.1 ∙ o)) (search rules) c.before.before.tell.ensures
+    tells _ _ _ _ (ap opening_told (sym c.before.before.before.before.before.opening2.given.1 ∙ o)) (search rules) c.before.before.tell.ensures
 
 pub bf-open-spec : {M : Type 1} → statement M
 bf-open-spec =

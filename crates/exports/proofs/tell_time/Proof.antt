@@ -1,6 +1,6 @@
 use mathlib.Core.Path.{ap, sym}
 use borrow.Author.Rules.{rules}
-use Rattle.exports.specs.Numbers.{timingTold}
+use Rattle.exports.specs.Numbers.{timing_told}
 use Rattle.exports.specs.Told.{tells}
 use Rattle.exports.proofs.tell_time.Statement.{statement}
 use Rattle.exports.proofs.tell_time.Tie as tie
@@ -23,7 +23,7 @@ same_length c = search rules
 returns : tie.Need-returns
 returns c =
     let s = c.before.before.before.before.before.before.before.before in
-    tells _ _ _ _ (ap timingTold (sym c.before.before.before.before.before.timing.given.1)) s.requires c.before.before.tell.ensures
+    tells _ _ _ _ (ap timing_told (sym c.before.before.before.before.before.timing.given.1)) s.requires c.before.before.tell.ensures
 
 same-length-2 : tie.Need-same-length-2
 same-length-2 c = search rules
@@ -31,7 +31,7 @@ same-length-2 c = search rules
 returns-2 : tie.Need-returns-2
 returns-2 c =
     let s = c.before.before.before.before.before.before.before.before in
-    tells _ _ _ _ (ap timingTold (sym c.before.before.before.before.before.timing2.given.1)) s.requires c.before.before.tell2.ensures
+    tells _ _ _ _ (ap timing_told (sym c.before.before.before.before.before.timing2.given.1)) s.requires c.before.before.tell2.ensures
 
 pub tell-time-spec : {M : Type 1} → statement M
 tell-time-spec =

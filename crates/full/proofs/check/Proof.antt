@@ -1,6 +1,6 @@
 use mathlib.Core.Path.{sym, ◌∙◌}
 use borrow.Author.Rules.{rules}
-use Rattle.full.specs.FaultFound.{verdict-refused, verdict-opened}
+use Rattle.full.specs.FaultFound.{verdict_refused, verdict_opened}
 use Rattle.volume.specs.Opened.{opened}
 use Rattle.full.proofs.check.Statement.{statement}
 use Rattle.full.proofs.check.Tie as tie
@@ -29,12 +29,12 @@ fault-of-requires c κs =
 returns : tie.Need-returns
 returns c =
     let o = c.before.before.before in
-    sym (verdict-refused o.before.before.args.v.now _ _ (sym o.«open».ensures ∙ c.before.opening.given.1))
+    sym (verdict_refused o.before.before.args.v.now _ _ (sym o.«open».ensures ∙ c.before.opening.given.1))
 
 returns-2 : tie.Need-returns-2
 returns-2 c =
     let o = c.before.before.before.before.before in
-    c.fault-of.ensures ∙ sym (verdict-opened o.before.before.args.v.now _ (sym o.«open».ensures ∙ c.before.before.before.opening2.given.1))
+    c.fault-of.ensures ∙ sym (verdict_opened o.before.before.args.v.now _ (sym o.«open».ensures ∙ c.before.before.before.opening2.given.1))
 
 pub check-spec : {M : Type 1} → statement M
 check-spec =

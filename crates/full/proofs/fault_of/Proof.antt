@@ -3,10 +3,10 @@ use native.Mathlib.Omega.{arith}
 use lib.ListN.{replicate, length-replicate}
 use borrow.Author.Rules.{rules}
 use Rattle.full.specs.Turns.{ready}
-use Rattle.full.specs.FaultFound.{faults-road, faults-pair}
-use Rattle.records.specs.Format.{volumeOf}
-use Rattle.travel.specs.Digest.{digest-made}
-use Rattle.full.proofs.Tags.{other-than-full}
+use Rattle.full.specs.FaultFound.{faults_road, faults_pair}
+use Rattle.records.specs.Format.{volume_of}
+use Rattle.travel.specs.Digest.{digest_made}
+use Rattle.full.proofs.Tags.{other_than_full}
 use Rattle.full.proofs.fault_of.Statement.{statement}
 use Rattle.full.proofs.fault_of.Tie as tie
 
@@ -42,7 +42,7 @@ roads-fault-requires c κs =
     let i = m.before.before.before.before in
     let s = i.before.before.before.before in
     let few = s.requires.1.1.1 in
-    let D = digest-made (volumeOf s.args.v.now) (replicate 20481 0) (simp length-replicate (omega (arith, s.requires.1.1.0.edges, s.requires.1.1.0.roads, few))) in
+    let D = digest_made (volume_of s.args.v.now) (replicate 20481 0) (simp length-replicate (omega (arith, s.requires.1.1.0.edges, s.requires.1.1.0.roads, few))) in
     (ready s.args.v.now s.args.t s.args.c (replicate 1024 0) (replicate 16384 0) _ _ s.requires.0 s.requires.1.0 s.requires.1.1.0 (omega arith) (omega arith) i.index-edges.ensures, (rw m.make-digest.ensures D, s.requires.1.1.0.roads))
 
 enum_told : tie.Need-enum-told
@@ -51,7 +51,7 @@ enum_told c = search rules
 returns : tie.Need-returns
 returns c =
     let s = c.before.before.before.before.before.before.before.before.before.before.before.before.before.before in
-    faults-road (volumeOf s.args.v.now) _ c.before.roads-fault.ensures (other-than-full _ c.match.keys2)
+    faults_road (volume_of s.args.v.now) _ c.before.roads-fault.ensures (other_than_full _ c.match.keys2)
 
 slice-aggregate-lefts-fault : tie.Need-slice-aggregate-lefts-fault
 slice-aggregate-lefts-fault c = search rules
@@ -68,14 +68,14 @@ lefts-fault-requires c κs =
     let i = m.before.before.before.before in
     let s = i.before.before.before.before in
     let few = s.requires.1.1.1 in
-    let D = digest-made (volumeOf s.args.v.now) (replicate 20481 0) (simp length-replicate (omega (arith, s.requires.1.1.0.edges, s.requires.1.1.0.roads, few))) in
+    let D = digest_made (volume_of s.args.v.now) (replicate 20481 0) (simp length-replicate (omega (arith, s.requires.1.1.0.edges, s.requires.1.1.0.roads, few))) in
     (ready s.args.v.now s.args.t s.args.c (replicate 1024 0) (replicate 16384 0) _ _ s.requires.0 s.requires.1.0 s.requires.1.1.0 (omega arith) (omega arith) i.index-edges.ensures, rw m.make-digest.ensures D)
 
 returns-2 : tie.Need-returns-2
 returns-2 c =
     let t = c.before.before.before.before in
     let s = t.before.before.before.before.before.before.before.before.before.before.before.before.before.before.before in
-    faults-pair (volumeOf s.args.v.now) _ (sym t.before.before.roads-fault.ensures ∙ t.enum_told.given.1) c.lefts-fault.ensures
+    faults_pair (volume_of s.args.v.now) _ (sym t.before.before.roads-fault.ensures ∙ t.enum_told.given.1) c.lefts-fault.ensures
 
 pub fault-of-spec : {M : Type 1} → statement M
 fault-of-spec =

@@ -1,6 +1,6 @@
 use mathlib.Core.Path.{ap, sym}
 use borrow.Author.Rules.{rules}
-use Rattle.full.specs.Fault.{ofPair}
+use Rattle.full.specs.Fault.{of_pair}
 use Rattle.full.proofs.of_pair.Statement.{statement}
 use Rattle.full.proofs.of_pair.Tie as tie
 
@@ -14,13 +14,13 @@ enum-told-2 : tie.Need-enum-told-2
 enum-told-2 c = search rules
 
 returns : tie.Need-returns
-returns c = let s = c.before.before in ap (ofPair s.args.l s.args.r) (sym c.enum_told.given.1)
+returns c = let s = c.before.before in ap (of_pair s.args.l s.args.r) (sym c.enum_told.given.1)
 
 returns-2 : tie.Need-returns-2
-returns-2 c = let s = c.before.before.before in ap (ofPair s.args.l s.args.r) (sym c.before.c.given.1)
+returns-2 c = let s = c.before.before.before in ap (of_pair s.args.l s.args.r) (sym c.before.c.given.1)
 
 returns-3 : tie.Need-returns-3
-returns-3 c = let s = c.before.before in ap (ofPair s.args.l s.args.r) (sym c.enum-told2.given.1)
+returns-3 c = let s = c.before.before in ap (of_pair s.args.l s.args.r) (sym c.enum-told2.given.1)
 
 pub of-pair-spec : {M : Type 1} → statement M
 of-pair-spec = tie.close (tie.spec enum_told enum-known-c enum-told-2 returns returns-2 returns-3)

@@ -2,24 +2,24 @@ use Prim.Native.Nat.{◌-◌, ◌≤◌}
 use mathlib.Core.Path.{sym, ◌∙◌}
 use native.Mathlib.Omega.{arith}
 use borrow.Author.Rules.{rules}
-use Rattle.full.specs.FaultRow.{NoFault, fault-go, fault-stop, fault-end}
-use Rattle.full.specs.Fault.{isFull, roadFault, roadsFault}
-use Rattle.records.specs.Format.{volumeOf}
-use Rattle.block.specs.First.{first-start}
-use Rattle.full.proofs.Tags.{other-than-full}
+use Rattle.full.specs.FaultRow.{NoFault, fault_go, fault_stop, fault_end}
+use Rattle.full.specs.Fault.{is_full, road_fault, roads_fault}
+use Rattle.records.specs.Format.{volume_of}
+use Rattle.block.specs.First.{first_start}
+use Rattle.full.proofs.Tags.{other_than_full}
 use Rattle.full.proofs.roads_fault.Statement.{statement}
 use Rattle.full.proofs.roads_fault.Tie as tie
 
 abbrev invariant-loop : tie.invariant-loop
-invariant-loop v t first next digest edges roads k₀ k = (k ≤ roads) × NoFault (roadFault (volumeOf v)) (volumeOf v).roads k
+invariant-loop v t first next digest edges roads k₀ k = (k ≤ roads) × NoFault (road_fault (volume_of v)) (volume_of v).roads k
 
 abbrev decreases-loop : tie.decreases-loop
 decreases-loop v t first next digest edges roads k₀ k = roads - k
 
 loop-holds : tie.Need-loop-init invariant-loop decreases-loop
 loop-holds c =
-    let vol = volumeOf c.before.before.before.before.args.v.now in
-    (omega arith, first-start (λ i. isFull (roadFault vol i)) vol.roads)
+    let vol = volume_of c.before.before.before.before.args.v.now in
+    (omega arith, first_start (λ i. is_full (road_fault vol i)) vol.roads)
 
 road-fault-requires : tie.Need-road-fault-requires invariant-loop decreases-loop
 road-fault-requires c κs =
@@ -30,12 +30,12 @@ enum_told : tie.Need-enum-told invariant-loop decreases-loop
 enum_told c = search rules
 
 returns : tie.Need-returns invariant-loop decreases-loop
-unfolding roadsFault
+unfolding roads_fault
 returns c =
     let l = c.before.before.before in
     let s = l.before.before.before.before.before in
-    let vol = volumeOf s.args.v.now in
-    fault-stop (roadFault vol) vol.roads l.loop.k _ (omega (arith, s.requires.1.1, c.before.before.loop-test.true)) c.before.road-fault.ensures (other-than-full _ c.match.keys2) l.loop.invariant.1
+    let vol = volume_of s.args.v.now in
+    fault_stop (road_fault vol) vol.roads l.loop.k _ (omega (arith, s.requires.1.1, c.before.before.loop-test.true)) c.before.road-fault.ensures (other_than_full _ c.match.keys2) l.loop.invariant.1
 
 add-k : tie.Need-overflow-add-k invariant-loop decreases-loop
 add-k c = search rules
@@ -47,16 +47,16 @@ loop-again : tie.Need-loop-preserved invariant-loop decreases-loop
 loop-again c =
     let l = c.before.before.before.before in
     let s = l.before.before.before.before.before in
-    let vol = volumeOf s.args.v.now in
-    (omega arith, fault-go (roadFault vol) vol.roads l.loop.k (omega (arith, s.requires.1.1, c.before.before.before.loop-test.true)) (sym c.before.before.road-fault.ensures ∙ c.enum_told.given.1) l.loop.invariant.1)
+    let vol = volume_of s.args.v.now in
+    (omega arith, fault_go (road_fault vol) vol.roads l.loop.k (omega (arith, s.requires.1.1, c.before.before.before.loop-test.true)) (sym c.before.before.road-fault.ensures ∙ c.enum_told.given.1) l.loop.invariant.1)
 
 returns-2 : tie.Need-returns-2 invariant-loop decreases-loop
-unfolding roadsFault
+unfolding roads_fault
 returns-2 c =
     let l = c.before in
     let s = l.before.before.before.before.before in
-    let vol = volumeOf s.args.v.now in
-    fault-end (roadFault vol) vol.roads l.loop.k (omega (arith, s.requires.1.1, c.loop-test.false)) (omega (arith, s.requires.1.1)) l.loop.invariant.1
+    let vol = volume_of s.args.v.now in
+    fault_end (road_fault vol) vol.roads l.loop.k (omega (arith, s.requires.1.1, c.loop-test.false)) (omega (arith, s.requires.1.1)) l.loop.invariant.1
 
 pub roads-fault-spec : {M : Type 1} → statement M
 roads-fault-spec =

@@ -1,5 +1,5 @@
 use borrow.Author.Rules.{rules}
-use Rattle.search.specs.Steps.{tells-no-way, tells-open, tells-closed, ran-walkable, ran-chain}
+use Rattle.search.specs.Steps.{tells_no_way, tells_open, tells_closed, ran_walkable, ran_chain}
 use Rattle.search.proofs.apply_rule.Statement.{statement}
 use Rattle.search.proofs.apply_rule.Tie as tie
 
@@ -27,7 +27,7 @@ close-requires c κs =
     let s = c.before.before.before.before.before.before.before.before.before.before.before.before.before in
     let o = s.requires.0 in
     let R = rw m.outcome3.given.1 at m.before.before.before.before.run.ensures in
-    (rw m.before.before.before.before.before.before.tables-of.ensures o.laid, (o.sound, (ran-walkable s.args.c.junctions o.counted.junctions s.requires.1 R, ran-chain o.sound s.requires.1 R)))
+    (rw m.before.before.before.before.before.before.tables-of.ensures o.laid, (o.sound, (ran_walkable s.args.c.junctions o.counted.junctions s.requires.1 R, ran_chain o.sound s.requires.1 R)))
 
 same_length : tie.Need-same-length
 same_length c = search rules
@@ -36,7 +36,7 @@ returns : tie.Need-returns
 returns c =
     let m = c.before in
     let s = m.before.before.before.before.before.before.before.before.before.before in
-    tells-no-way s.args.path.now (rw m.outcome.given.1 at m.before.before.before.before.run.ensures)
+    tells_no_way s.args.path.now (rw m.outcome.given.1 at m.before.before.before.before.run.ensures)
 
 same-length-2 : tie.Need-same-length-2
 same-length-2 c = search rules
@@ -45,7 +45,7 @@ returns-2 : tie.Need-returns-2
 returns-2 c =
     let m = c.before in
     let s = m.before.before.before.before.before.before.before.before.before.before in
-    tells-open s.args.path.now (rw m.outcome2.given.1 at m.before.before.before.before.run.ensures)
+    tells_open s.args.path.now (rw m.outcome2.given.1 at m.before.before.before.before.run.ensures)
 
 same-length-3 : tie.Need-same-length-3
 same-length-3 c = search rules
@@ -57,7 +57,7 @@ returns-3 : tie.Need-returns-3
 returns-3 c =
     let m = c.before.before.before.before.before.before in
     let s = m.before.before.before.before.before.before.before.before.before.before in
-    tells-closed s.args.path.now (rw m.outcome3.given.1 at m.before.before.before.before.run.ensures) c.before.before.close.ensures
+    tells_closed s.args.path.now (rw m.outcome3.given.1 at m.before.before.before.before.run.ensures) c.before.before.close.ensures
 
 pub apply-rule-spec : {M : Type 1} → statement M
 apply-rule-spec =

@@ -1,8 +1,8 @@
 use native.Mathlib.Omega.{arith}
 use borrow.Author.Rules.{rules}
-use Rattle.search.specs.Steps.{report-short, report-closed}
-use Rattle.records.specs.Format.{volumeOf}
-use Rattle.search.specs.Trail.{part-is, trailOf}
+use Rattle.search.specs.Steps.{report_short, report_closed}
+use Rattle.records.specs.Format.{volume_of}
+use Rattle.search.specs.Trail.{part_is, trail_of}
 use Rattle.search.proofs.close.Statement.{statement}
 use Rattle.search.proofs.close.Tie as tie
 
@@ -27,16 +27,16 @@ part-count-path-end c = search rules
 count-path-requires : tie.Need-count-path-requires
 count-path-requires c κs =
     let s = c.before.before.before.before.before.before.before.before in
-    let p = part-is c.before.before.before.walk-back.ensures 2048 (omega arith) in
+    let p = part_is c.before.before.before.walk-back.ensures 2048 (omega arith) in
     (s.requires.0, (s.requires.1.0, rw p s.requires.1.1.1.1))
 
 returns : tie.Need-returns
 returns c =
     let s = c.before.before.before.before.before.before.before.before.before.before in
-    let vol = volumeOf s.args.v.now in
-    let es = trailOf vol s.args.from s.args.to s.args.used s.args.work.now in
-    let p = part-is c.before.before.before.before.before.walk-back.ensures 2048 (omega arith) in
-    report-short vol s.args.x s.args.path.now s.args.arrival s.args.used _ es (rw p at c.before.count-path.ensures) c.if1.true
+    let vol = volume_of s.args.v.now in
+    let es = trail_of vol s.args.from s.args.to s.args.used s.args.work.now in
+    let p = part_is c.before.before.before.before.before.walk-back.ensures 2048 (omega arith) in
+    report_short vol s.args.x s.args.path.now s.args.arrival s.args.used _ es (rw p at c.before.count-path.ensures) c.if1.true
 
 mul-write-path : tie.Need-overflow-mul-write-path
 mul-write-path c = search rules
@@ -54,7 +54,7 @@ write-path-requires : tie.Need-write-path-requires
 write-path-requires c κs =
     let d = c.before.before.before.before in
     let s = d.before.before.before.before.before.before.before.before.before in
-    let p = part-is d.before.before.before.before.walk-back.ensures 2048 (omega arith) in
+    let p = part_is d.before.before.before.before.walk-back.ensures 2048 (omega arith) in
     (s.requires.0, (s.requires.1.0, (rw p s.requires.1.1.1.1, omega (arith, d.count-path.ensures))))
 
 same_length : tie.Need-same-length
@@ -64,10 +64,10 @@ returns-2 : tie.Need-returns-2
 returns-2 c =
     let d = c.before.before.before.before.before.before.before in
     let s = d.before.before.before.before.before.before.before.before.before in
-    let vol = volumeOf s.args.v.now in
-    let es = trailOf vol s.args.from s.args.to s.args.used s.args.work.now in
-    let p = part-is d.before.before.before.before.walk-back.ensures 2048 (omega arith) in
-    report-closed vol s.args.x s.args.path.now s.args.arrival s.args.used _ es _ (rw p at d.count-path.ensures) (omega arith) (omega arith) (rw p at c.before.before.write-path.ensures)
+    let vol = volume_of s.args.v.now in
+    let es = trail_of vol s.args.from s.args.to s.args.used s.args.work.now in
+    let p = part_is d.before.before.before.before.walk-back.ensures 2048 (omega arith) in
+    report_closed vol s.args.x s.args.path.now s.args.arrival s.args.used _ es _ (rw p at d.count-path.ensures) (omega arith) (omega arith) (rw p at c.before.before.write-path.ensures)
 
 pub close_spec : {M : Type 1} → statement M
 close_spec =

@@ -1,7 +1,7 @@
 use native.Mathlib.Omega.{arith}
 use borrow.Author.Rules.{rules}
 use Rattle.volume.specs.Opened.{opened}
-use Rattle.search.specs.Steps.{no_start, no-destination, no-work, question, by-rule}
+use Rattle.search.specs.Steps.{no_start, no_destination, no_work, question, by_rule}
 use Rattle.search.proofs.search_open.Statement.{statement}
 use Rattle.search.proofs.search_open.Tie as tie
 
@@ -13,7 +13,7 @@ returns c =
 returns-2 : tie.Need-returns-2
 returns-2 c =
     let s = c.before.before.before.before.before in
-    no-destination s.args.v.now s.args.from s.args.to s.args.x s.args.budget s.args.work.now s.args.path.now s.args.c s.requires.0 (omega arith) c.if2.true
+    no_destination s.args.v.now s.args.from s.args.to s.args.x s.args.budget s.args.work.now s.args.path.now s.args.c s.requires.0 (omega arith) c.if2.true
 
 mul-if3 : tie.Need-overflow-mul-if3
 mul-if3 c =
@@ -24,7 +24,7 @@ mul-if3 c =
 returns-3 : tie.Need-returns-3
 returns-3 c =
     let s = c.before.before.before.before.before.before in
-    no-work s.args.v.now s.args.from s.args.to s.args.x s.args.budget s.args.work.now s.args.path.now s.args.c s.requires.0 (omega arith) (omega arith) c.if3.true
+    no_work s.args.v.now s.args.from s.args.to s.args.x s.args.budget s.args.work.now s.args.path.now s.args.c s.requires.0 (omega arith) (omega arith) c.if3.true
 
 apply-rule-requires : tie.Need-apply-rule-requires
 apply-rule-requires c κs =
@@ -52,7 +52,7 @@ returns-4 : tie.Need-returns-4
 returns-4 c =
     let m = c.before.before.before.before.before.before.before.before in
     let s = m.before.before.before.before.before.before.before.before.before in
-    by-rule s.args.v.now s.args.from s.args.to s.args.x s.args.budget s.args.work.now s.args.path.now s.args.c s.requires.0 (omega arith) (omega arith) (omega arith) _ m.apply-rule.ensures c.before.before.clear.ensures
+    by_rule s.args.v.now s.args.from s.args.to s.args.x s.args.budget s.args.work.now s.args.path.now s.args.c s.requires.0 (omega arith) (omega arith) (omega arith) _ m.apply-rule.ensures c.before.before.clear.ensures
 
 pub search-open-spec : {M : Type 1} → statement M
 search-open-spec =

@@ -1,8 +1,8 @@
 use native.Mathlib.Omega.{arith}
 use lib.ListN.{replicate}
-use Rattle.records.specs.Index.{indexed-linked}
-use Rattle.records.specs.Format.{volumeOf}
-use Rattle.travel.specs.Digest.{digest-made}
+use Rattle.records.specs.Index.{indexed_linked}
+use Rattle.records.specs.Format.{volume_of}
+use Rattle.travel.specs.Digest.{digest_made}
 use borrow.Author.Rules.{rules}
 use Rattle.settle.proofs.run_indexed.Statement.{statement}
 use Rattle.settle.proofs.run_indexed.Tie as tie
@@ -31,7 +31,7 @@ mark-requires c κs =
     let s = i.before.before.before.before.before.before.before in
     let n = s.requires.1.0 in
     let few = s.requires.1.1.0 in
-    (s.requires.0, (n, (indexed-linked (volumeOf s.args.v.now) (replicate 1024 0) _ _ _ (omega (arith, few, n.junctions)) (omega (arith, s.requires.1.1.1.1.0.0, n.edges)) i.index-edges.ensures, omega (arith, few))))
+    (s.requires.0, (n, (indexed_linked (volume_of s.args.v.now) (replicate 1024 0) _ _ _ (omega (arith, few, n.junctions)) (omega (arith, s.requires.1.1.1.1.0.0, n.edges)) i.index-edges.ensures, omega (arith, few))))
 
 slice-aggregate-units : tie.Need-slice-aggregate-units
 slice-aggregate-units c = search rules
@@ -48,13 +48,13 @@ units-requires c κs =
     let n = s.requires.1.0 in
     let few = s.requires.1.1.0 in
     let S = s.requires.1.1.1.0 in
-    let D = digest-made (volumeOf s.args.v.now) s.args.digest.now (omega (arith, s.requires.1.1.1.1.0.1, n.edges, n.roads)) in (
+    let D = digest_made (volume_of s.args.v.now) s.args.digest.now (omega (arith, s.requires.1.1.1.1.0.1, n.edges, n.roads)) in (
       (s.requires.0, n, S),
       (
         rw g.make-digest.ensures D,
         (
-          indexed-linked (volumeOf s.args.v.now) (replicate 1024 0) _ _ _ (omega (arith, few, n.junctions)) (omega (arith, s.requires.1.1.1.1.0.0, n.edges)) i.index-edges.ensures,
-          ((omega (arith, few, m.mark.ensures.size), m.mark.ensures.marks-at), s.requires.1.1.1.1.1),
+          indexed_linked (volume_of s.args.v.now) (replicate 1024 0) _ _ _ (omega (arith, few, n.junctions)) (omega (arith, s.requires.1.1.1.1.0.0, n.edges)) i.index-edges.ensures,
+          ((omega (arith, few, m.mark.ensures.size), m.mark.ensures.marks_at), s.requires.1.1.1.1.1),
         ),
       ),
     )

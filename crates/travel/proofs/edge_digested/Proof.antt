@@ -1,6 +1,6 @@
 use native.Mathlib.Omega.{arith}
-use Rattle.records.specs.Format.{volumeOf}
-use Rattle.travel.specs.Digest.{laid_out, digest-made}
+use Rattle.records.specs.Format.{volume_of}
+use Rattle.travel.specs.Digest.{laid_out, digest_made}
 use borrow.Author.Rules.{rules}
 use Rattle.travel.proofs.edge_digested.Statement.{statement}
 use Rattle.travel.proofs.edge_digested.Tie as tie
@@ -15,7 +15,7 @@ edge-duration-requires c κs =
     let m = c.before.before.before in
     let s = m.before.before.before.before in
     let S = s.requires.1.0 in
-    let D = digest-made (volumeOf s.args.v.now) s.args.digest.now (omega (arith, s.requires.1.1.0.edges, s.requires.1.1.0.roads, s.requires.1.1.1.1)) in
+    let D = digest_made (volume_of s.args.v.now) s.args.digest.now (omega (arith, s.requires.1.1.0.edges, s.requires.1.1.0.roads, s.requires.1.1.1.1)) in
     (laid_out s.requires.0, (S, (rw m.make-digest.ensures D, s.requires.1.1.1.0)))
 
 same_length : tie.Need-same-length

@@ -41,7 +41,7 @@ edge-digested-requires-2 c κs =
     let s = c.before.before.before.before.before.before.before in
     let K = s.requires.1.1.0 in
     let S = s.requires.1.0 in
-    (s.requires.0, (S, (K, (s.requires.1.1.1, simp length-replicate (omega (arith, K.edges, K.roads, S.edges_few, S.roads-few))))))
+    (s.requires.0, (S, (K, (s.requires.1.1.1, simp length-replicate (omega (arith, K.edges, K.roads, S.edges_few, S.roads_few))))))
 
 returns-3 : tie.Need-returns-3
 returns-3 c = search rules

@@ -3,10 +3,10 @@ use mathlib.Core.Path.{subst, ap, sym, ◌∙◌}
 use native.Mathlib.Omega.{arith}
 use borrow.Author.Tests.{lt-ltb, le-ltb}
 use borrow.Author.Rules.{rules}
-use Rattle.records.specs.Format.{Laid, volumeOf}
+use Rattle.records.specs.Format.{Laid, volume_of}
 use Rattle.records.specs.declared.tables.Tables.{Tables}
 use Rattle.travel.specs.declared.Timing.TheVariants.{Lasts}
-use Rattle.travel.specs.Times.{opening, timed, edgeTimeOf}
+use Rattle.travel.specs.Times.{opening, timed, edge_time_of}
 use Rattle.travel.specs.Network.{arrival}
 use Rattle.volume.specs.declared.Opening.{Opening}
 use Rattle.volume.specs.Opened.{opened}
@@ -24,11 +24,11 @@ enum-known-opening-2 : tie.Need-enum-known-opening-2
 enum-known-opening-2 c = search rules
 
 returns : tie.Need-returns
-unfolding edgeTimeOf
+unfolding edge_time_of
 returns c =
     let s = c.before.before.before.before.before.before.before in
     let a = s.args in
-    let vol = volumeOf a.v.now in
+    let vol = volume_of a.v.now in
     let is = sym c.before.before.before.opening2.given.1 ∙ c.before.before.before.before.before.«open».ensures in
     let o = opened a.v.now _ (sym is) in
     sym (choose_no _ _ (le-ltb a.edge vol.edges (omega (arith, o.counted.edges))))
@@ -46,18 +46,18 @@ edge-lasts-requires c κs =
     (subst (λ (t : Tables). Laid s.args.v.now t) (sym c.tables-of.ensures) o.laid, (o.sound, (o.counted, record { there = omega (arith, o.counted.edges); fits = omega (arith, (o.sound.edge s.args.edge (omega (arith, o.counted.edges))).span) })))
 
 returns-2 : tie.Need-returns-2
-unfolding edgeTimeOf
+unfolding edge_time_of
 returns-2 c =
     let a = c.before.before.before.before.before.args in
-    let vol = volumeOf a.v.now in
+    let vol = volume_of a.v.now in
     ap (λ (p : Opening). opening p (timed vol.edges a.edge (arrival vol a.edge a.departure - a.departure))) (sym c.before.opening.given.1 ∙ c.before.before.before.«open».ensures)
 
 returns-3 : tie.Need-returns-3
-unfolding edgeTimeOf
+unfolding edge_time_of
 returns-3 c =
     let s = c.before.before.before.before.before.before.before.before.before in
     let a = s.args in
-    let vol = volumeOf a.v.now in
+    let vol = volume_of a.v.now in
     let is = sym c.before.before.before.before.before.opening2.given.1 ∙ c.before.before.before.before.before.before.before.«open».ensures in
     let o = opened a.v.now _ (sym is) in
     ap Lasts (let d = c.edge-lasts.ensures in omega arith)

@@ -3,11 +3,11 @@ use mathlib.Core.Path.{subst, ap, sym, ◌∙◌}
 use native.Mathlib.Omega.{arith}
 use borrow.Author.Tests.{lt-ltb, le-ltb}
 use borrow.Author.Rules.{rules}
-use Rattle.records.specs.Format.{Laid, volumeOf}
+use Rattle.records.specs.Format.{Laid, volume_of}
 use Rattle.records.specs.declared.tables.Tables.{Tables}
 use Rattle.travel.specs.declared.Timing.TheVariants.{Lasts}
-use Rattle.travel.specs.Times.{opening, timed, roadTimeOf}
-use Rattle.travel.specs.Network.{roadTime}
+use Rattle.travel.specs.Times.{opening, timed, road_time_of}
+use Rattle.travel.specs.Network.{road_time}
 use Rattle.volume.specs.declared.Opening.{Opening}
 use Rattle.volume.specs.Opened.{opened}
 use Rattle.block.specs.Choose.{choose_yes, choose_no}
@@ -24,15 +24,15 @@ enum-known-opening-2 : tie.Need-enum-known-opening-2
 enum-known-opening-2 c = search rules
 
 returns : tie.Need-returns
-unfolding roadTimeOf
+unfolding road_time_of
 returns c =
     let s = c.before.before.before.before.before.before.before in
     let a = s.args in
-    let vol = volumeOf a.v.now in
+    let vol = volume_of a.v.now in
     let is = sym c.before.before.before.opening2.given.1 ∙ c.before.before.before.before.before.«open».ensures in
     let o = opened a.v.now _ (sym is) in
     sym (choose_no _ _ (le-ltb a.road vol.roads (omega (arith, o.counted.roads))))
-    ∙ ap (λ (p : Opening). opening p (timed vol.roads a.road (roadTime vol a.road a.departure))) is
+    ∙ ap (λ (p : Opening). opening p (timed vol.roads a.road (road_time vol a.road a.departure))) is
 
 tables-of-requires : tie.Need-tables-of-requires
 tables-of-requires c κs =
@@ -46,23 +46,23 @@ road-duration-requires c κs =
     (subst (λ (t : Tables). Laid s.args.v.now t) (sym c.tables-of.ensures) o.laid, (o.sound, omega (arith, o.counted.roads)))
 
 returns-2 : tie.Need-returns-2
-unfolding roadTimeOf
+unfolding road_time_of
 returns-2 c =
     let a = c.before.before.before.before.before.args in
-    let vol = volumeOf a.v.now in
-    ap (λ (p : Opening). opening p (timed vol.roads a.road (roadTime vol a.road a.departure))) (sym c.before.opening.given.1 ∙ c.before.before.before.«open».ensures)
+    let vol = volume_of a.v.now in
+    ap (λ (p : Opening). opening p (timed vol.roads a.road (road_time vol a.road a.departure))) (sym c.before.opening.given.1 ∙ c.before.before.before.«open».ensures)
 
 returns-3 : tie.Need-returns-3
-unfolding roadTimeOf
+unfolding road_time_of
 returns-3 c =
     let s = c.before.before.before.before.before.before.before.before.before in
     let a = s.args in
-    let vol = volumeOf a.v.now in
+    let vol = volume_of a.v.now in
     let is = sym c.before.before.before.before.before.opening2.given.1 ∙ c.before.before.before.before.before.before.before.«open».ensures in
     let o = opened a.v.now _ (sym is) in
     ap Lasts c.road-duration.ensures
     ∙ sym (choose_yes _ _ (lt-ltb a.road vol.roads (omega (arith, o.counted.roads))))
-    ∙ ap (λ (p : Opening). opening p (timed vol.roads a.road (roadTime vol a.road a.departure))) is
+    ∙ ap (λ (p : Opening). opening p (timed vol.roads a.road (road_time vol a.road a.departure))) is
 
 pub road-time-spec : {M : Type 1} → statement M
 road-time-spec =

@@ -1,5 +1,5 @@
 use borrow.Author.Rules.{rules}
-use Rattle.records.specs.Format.{volumeOf}
+use Rattle.records.specs.Format.{volume_of}
 use Rattle.volume.proofs.head.Statement.{statement}
 use Rattle.volume.proofs.head.Tie as tie
 
@@ -34,7 +34,7 @@ cast-t11 : tie.Need-overflow-cast-t11
 cast-t11 c = search rules
 
 returns : tie.Need-returns
-unfolding volumeOf
+unfolding volume_of
 returns c = (cc)
 
 pub head_spec : {M : Type 1} → statement M

@@ -1,7 +1,7 @@
 use mathlib.Core.Path.{sym, ◌∙◌}
 use borrow.Author.Rules.{rules}
-use Rattle.volume.specs.OpenSteps.{counted_of, pass-faulty, pass-whole, records-road, records-edge, records-fine}
-use Rattle.records.specs.Format.{volumeOf}
+use Rattle.volume.specs.OpenSteps.{counted_of, pass_faulty, pass_whole, records_road, records_edge, records_fine}
+use Rattle.records.specs.Format.{volume_of}
 use Rattle.volume.proofs.open_records.Statement.{statement}
 use Rattle.volume.proofs.open_records.Tie as tie
 
@@ -14,9 +14,9 @@ enum-known-roads c = search rules
 returns : tie.Need-returns
 returns c =
     let s = c.before.before.before.before.before in
-    let vol = volumeOf s.args.v.now in
-    let f = pass-faulty _ _ _ _ _ _ (sym c.before.roads.given.1 ∙ c.before.before.before.roads-pass.ensures) in
-    sym (records-road vol _ f.0 f.1)
+    let vol = volume_of s.args.v.now in
+    let f = pass_faulty _ _ _ _ _ _ (sym c.before.roads.given.1 ∙ c.before.before.before.roads-pass.ensures) in
+    sym (records_road vol _ f.0 f.1)
 
 enum_told : tie.Need-enum-told
 enum_told c = search rules
@@ -30,11 +30,11 @@ enum-known-edges c = search rules
 returns-2 : tie.Need-returns-2
 returns-2 c =
     let s = c.before.before.before.before.before.before.before.before in
-    let vol = volumeOf s.args.v.now in
+    let vol = volume_of s.args.v.now in
     let told = c.before.before.before.before in
-    let p = pass-whole _ _ _ _ _ (sym told.enum_told.given.1 ∙ told.before.before.roads-pass.ensures) in
-    let f = pass-faulty _ _ _ _ _ _ (sym c.before.edges.given.1 ∙ c.before.before.before.edges-pass.ensures) in
-    sym (records-edge vol _ p f.0 f.1)
+    let p = pass_whole _ _ _ _ _ (sym told.enum_told.given.1 ∙ told.before.before.roads-pass.ensures) in
+    let f = pass_faulty _ _ _ _ _ _ (sym c.before.edges.given.1 ∙ c.before.before.before.edges-pass.ensures) in
+    sym (records_edge vol _ p f.0 f.1)
 
 enum-told-2 : tie.Need-enum-told-2
 enum-told-2 c = search rules
@@ -42,11 +42,11 @@ enum-told-2 c = search rules
 returns-3 : tie.Need-returns-3
 returns-3 c =
     let s = c.before.before.before.before.before.before.before in
-    let vol = volumeOf s.args.v.now in
+    let vol = volume_of s.args.v.now in
     let told = c.before.before.before in
-    let p = pass-whole _ _ _ _ _ (sym told.enum_told.given.1 ∙ told.before.before.roads-pass.ensures) in
-    let q = pass-whole _ _ _ _ _ (sym c.enum-told2.given.1 ∙ c.before.before.edges-pass.ensures) in
-    sym (records-fine vol _ p q s.requires.1.0)
+    let p = pass_whole _ _ _ _ _ (sym told.enum_told.given.1 ∙ told.before.before.roads-pass.ensures) in
+    let q = pass_whole _ _ _ _ _ (sym c.enum-told2.given.1 ∙ c.before.before.edges-pass.ensures) in
+    sym (records_fine vol _ p q s.requires.1.0)
 
 pub open-records-spec : {M : Type 1} → statement M
 open-records-spec =

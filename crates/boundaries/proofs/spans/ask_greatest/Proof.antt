@@ -1,5 +1,5 @@
 use borrow.Author.Rules.{rules}
-use Rattle.telling.specs.Room.{roads-fit}
+use Rattle.telling.specs.Room.{roads_fit}
 use Rattle.boundaries.proofs.spans.ask_greatest.Statement.{statement}
 use Rattle.boundaries.proofs.spans.ask_greatest.Tie as tie
 
@@ -37,7 +37,7 @@ slice-aggregate-asked-2 : tie.Need-slice-aggregate-asked-2
 slice-aggregate-asked-2 c = search rules
 
 asked-requires : tie.Need-asked-requires
-asked-requires c κs = roads-fit c.before.before.before.before.before.before.search.ensures
+asked-requires c κs = roads_fit c.before.before.before.before.before.before.search.ensures
 
 returns : tie.Need-returns
 returns c = search rules

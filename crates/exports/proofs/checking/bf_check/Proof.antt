@@ -1,12 +1,12 @@
 use mathlib.Core.Path.{ap, sym, ◌∙◌}
 use borrow.Author.Rules.{rules}
-use Rattle.exports.specs.Numbers.{verdictTold}
-use Rattle.exports.specs.Told.{tells, tells-not}
+use Rattle.exports.specs.Numbers.{verdict_told}
+use Rattle.exports.specs.Told.{tells, tells_not}
 use Rattle.exports.proofs.checking.bf_check.Statement.{statement}
 use Rattle.exports.proofs.checking.bf_check.Tie as tie
 
 returns : tie.Need-returns
-returns c = tells-not _ _ c.if1.true
+returns c = tells_not _ _ c.if1.true
 
 check-requires : tie.Need-check-requires
 check-requires c κs = search rules
@@ -52,42 +52,42 @@ same_length c = search rules
 
 returns-2 : tie.Need-returns-2
 returns-2 c =
-    tells _ _ _ _ (ap verdictTold (sym c.before.before.before.before.enum_told.given.1 ∙ c.before.before.before.before.before.before.check.ensures)) (search rules) c.before.before.tell-four.ensures
+    tells _ _ _ _ (ap verdict_told (sym c.before.before.before.before.enum_told.given.1 ∙ c.before.before.before.before.before.before.check.ensures)) (search rules) c.before.before.tell-four.ensures
 
 same-length-2 : tie.Need-same-length-2
 same-length-2 c = search rules
 
 returns-3 : tie.Need-returns-3
 returns-3 c =
-    tells _ _ _ _ (ap verdictTold (sym c.before.before.before.before.before.verdict.given.1 ∙ c.before.before.before.before.before.before.before.check.ensures)) (search rules) c.before.before.tell-four2.ensures
+    tells _ _ _ _ (ap verdict_told (sym c.before.before.before.before.before.verdict.given.1 ∙ c.before.before.before.before.before.before.before.check.ensures)) (search rules) c.before.before.tell-four2.ensures
 
 same-length-3 : tie.Need-same-length-3
 same-length-3 c = search rules
 
 returns-4 : tie.Need-returns-4
 returns-4 c =
-    tells _ _ _ _ (ap verdictTold (sym c.before.before.before.before.before.verdict2.given.1 ∙ c.before.before.before.before.before.before.before.check.ensures)) (search rules) c.before.before.tell-four3.ensures
+    tells _ _ _ _ (ap verdict_told (sym c.before.before.before.before.before.verdict2.given.1 ∙ c.before.before.before.before.before.before.before.check.ensures)) (search rules) c.before.before.tell-four3.ensures
 
 same-length-4 : tie.Need-same-length-4
 same-length-4 c = search rules
 
 returns-5 : tie.Need-returns-5
 returns-5 c =
-    tells _ _ _ _ (ap verdictTold (sym c.before.before.before.before.before.verdict3.given.1 ∙ c.before.before.before.before.before.before.before.check.ensures)) (search rules) c.before.before.tell-four4.ensures
+    tells _ _ _ _ (ap verdict_told (sym c.before.before.before.before.before.verdict3.given.1 ∙ c.before.before.before.before.before.before.before.check.ensures)) (search rules) c.before.before.tell-four4.ensures
 
 same-length-5 : tie.Need-same-length-5
 same-length-5 c = search rules
 
 returns-6 : tie.Need-returns-6
 returns-6 c =
-    tells _ _ _ _ (ap verdictTold (sym c.before.before.before.before.before.verdict4.given.1 ∙ c.before.before.before.before.before.before.before.check.ensures)) (search rules) c.before.before.tell-four5.ensures
+    tells _ _ _ _ (ap verdict_told (sym c.before.before.before.before.before.verdict4.given.1 ∙ c.before.before.before.before.before.before.before.check.ensures)) (search rules) c.before.before.tell-four5.ensures
 
 same-length-6 : tie.Need-same-length-6
 same-length-6 c = search rules
 
 returns-7 : tie.Need-returns-7
 returns-7 c =
-    tells _ _ _ _ (ap verdictTold (sym c.before.before.before.before.before.verdict5.given.1 ∙ c.before.before.before.before.before.before.before.check.ensures)) (search rules) c.before.before.tell.ensures
+    tells _ _ _ _ (ap verdict_told (sym c.before.before.before.before.before.verdict5.given.1 ∙ c.before.before.before.before.before.before.before.check.ensures)) (search rules) c.before.before.tell.ensures
 
 pub bf-check-spec : {M : Type 1} → statement M
 bf-check-spec =

@@ -1,6 +1,6 @@
 use mathlib.Core.Path.{ap, sym, ◌∙◌}
 use borrow.Author.Rules.{rules}
-use Rattle.exports.specs.Numbers.{answerTold, windowTold}
+use Rattle.exports.specs.Numbers.{answer_told, window_told}
 use Rattle.exports.specs.Told.{tells}
 use Rattle.settle.specs.declared.Upper.{Upper}
 use Rattle.exports.proofs.searching.tell_answer.Statement.{statement}
@@ -43,13 +43,13 @@ same_length : tie.Need-same-length
 same_length c = search rules
 
 returns : tie.Need-returns
-returns c = tells _ _ _ _ (ap answerTold (sym c.before.before.before.before.before.answer.given.1)) c.before.before.before.before.before.before.before.before.requires c.before.before.tell-four.ensures
+returns c = tells _ _ _ _ (ap answer_told (sym c.before.before.before.before.before.answer.given.1)) c.before.before.before.before.before.before.before.before.requires c.before.before.tell-four.ensures
 
 same-length-2 : tie.Need-same-length-2
 same-length-2 c = search rules
 
 returns-2 : tie.Need-returns-2
-returns-2 c = tells _ _ _ _ (ap answerTold (sym c.before.before.before.before.before.answer2.given.1)) c.before.before.before.before.before.before.before.before.requires c.before.before.tell-two.ensures
+returns-2 c = tells _ _ _ _ (ap answer_told (sym c.before.before.before.before.before.answer2.given.1)) c.before.before.before.before.before.before.before.before.requires c.before.before.tell-two.ensures
 
 same-length-3 : tie.Need-same-length-3
 same-length-3 c = search rules
@@ -57,7 +57,7 @@ same-length-3 c = search rules
 returns-3 : tie.Need-returns-3
 returns-3 c =
     let a = c.before.before.before.before.before.before.before.before.answer3.given in
-    tells _ _ _ _ (ap (λ (h : Upper). windowTold a.0.0 h a.0.1.1.0) (sym c.before.before.before.before.before.upper.given.1) ∙ ap answerTold (sym a.1)) c.before.before.before.before.before.before.before.before.before.before.before.requires c.before.before.tell-five.ensures
+    tells _ _ _ _ (ap (λ (h : Upper). window_told a.0.0 h a.0.1.1.0) (sym c.before.before.before.before.before.upper.given.1) ∙ ap answer_told (sym a.1)) c.before.before.before.before.before.before.before.before.before.before.before.requires c.before.before.tell-five.ensures
 
 same-length-4 : tie.Need-same-length-4
 same-length-4 c = search rules
@@ -65,13 +65,13 @@ same-length-4 c = search rules
 returns-4 : tie.Need-returns-4
 returns-4 c =
     let a = c.before.before.before.before.before.before.before.answer3.given in
-    tells _ _ _ _ (ap (λ (h : Upper). windowTold a.0.0 h a.0.1.1.0) (sym c.before.before.before.before.enum_told.given.1) ∙ ap answerTold (sym a.1)) c.before.before.before.before.before.before.before.before.before.before.requires c.before.before.tell-five2.ensures
+    tells _ _ _ _ (ap (λ (h : Upper). window_told a.0.0 h a.0.1.1.0) (sym c.before.before.before.before.enum_told.given.1) ∙ ap answer_told (sym a.1)) c.before.before.before.before.before.before.before.before.before.before.requires c.before.before.tell-five2.ensures
 
 same-length-5 : tie.Need-same-length-5
 same-length-5 c = search rules
 
 returns-5 : tie.Need-returns-5
-returns-5 c = tells _ _ _ _ (ap answerTold (sym c.before.before.before.before.before.answer4.given.1)) c.before.before.before.before.before.before.before.before.requires c.before.before.tell.ensures
+returns-5 c = tells _ _ _ _ (ap answer_told (sym c.before.before.before.before.before.answer4.given.1)) c.before.before.before.before.before.before.before.before.requires c.before.before.tell.ensures
 
 pub tell-answer-spec : {M : Type 1} → statement M
 tell-answer-spec =

@@ -3,17 +3,17 @@ use mathlib.Core.Path.{◌≡◌}
 use native.Mathlib.Omega.{arith}
 use lib.ListN.{length-set, length}
 use borrow.Author.Rules.{rules}
-use Rattle.records.specs.Index.{Indexed, index-none, index-filled, index-one, index-over}
-use Rattle.records.specs.Format.{volumeOf}
+use Rattle.records.specs.Index.{Indexed, index_none, index_filled, index_one, index_over}
+use Rattle.records.specs.Format.{volume_of}
 use Rattle.records.proofs.index.index_edges.Statement.{statement}
 use Rattle.records.proofs.index.index_edges.Tie as tie
 
 abbrev invariant-loop : tie.invariant-loop
 invariant-loop v t first₀ next₀ n e₀ first next e =
-    (e ≤ (volumeOf v).edges)
-    × Indexed (volumeOf v) first₀ next₀ first next e
-    × ((volumeOf v).junctions ≤ length first)
-    × ((volumeOf v).edges ≤ length next)
+    (e ≤ (volume_of v).edges)
+    × Indexed (volume_of v) first₀ next₀ first next e
+    × ((volume_of v).junctions ≤ length first)
+    × ((volume_of v).edges ≤ length next)
 
 abbrev decreases-loop : tie.decreases-loop
 decreases-loop v t first₀ next₀ n e₀ first next e = e
@@ -31,7 +31,7 @@ loop-holds c =
     let n = s.requires.1.0 in
     let f = c.before.before.fill in (
       omega arith,
-      index-none (volumeOf a.v.now) a.first.now _ a.next.now _ _ n.junctions n.edges f.ensures,
+      index_none (volume_of a.v.now) a.first.now _ a.next.now _ _ n.junctions n.edges f.ensures,
       omega (arith, f.auto.0, s.requires.1.1.1.0),
       omega (arith, s.requires.1.1.1.1),
     )
@@ -72,9 +72,9 @@ loop-again c =
     let s = l.before.before.before.before.before.before.before.before in
     let n = s.requires.1.0.junctions in
     let e = l.loop.e in
-    let from = c.before.before.edge-from in (
+    let from = c.before.before.edge_from in (
       omega arith,
-      index-one (volumeOf s.args.v.now) _ _ l.loop.first l.loop.next e (e - 1) from.result (omega arith) from.ensures.0 (omega arith) l.loop.invariant.1
+      index_one (volume_of s.args.v.now) _ _ l.loop.first l.loop.next e (e - 1) from.result (omega arith) from.ensures.0 (omega arith) l.loop.invariant.1
           (omega arith) l.loop.invariant.2 l.loop.invariant.3,
       rw length-set l.loop.invariant.2,
       rw length-set l.loop.invariant.3,
@@ -89,9 +89,9 @@ loop-again-2 c =
     let s = l.before.before.before.before.before.before.before.before in
     let n = s.requires.1.0.junctions in
     let e = l.loop.e in
-    let from = c.before.edge-from in (
+    let from = c.before.edge_from in (
       omega arith,
-      index-over (volumeOf s.args.v.now) _ _ l.loop.first l.loop.next e (e - 1) from.result (omega arith) from.ensures.0 (omega arith) l.loop.invariant.1 (omega arith),
+      index_over (volume_of s.args.v.now) _ _ l.loop.first l.loop.next e (e - 1) from.result (omega arith) from.ensures.0 (omega arith) l.loop.invariant.1 (omega arith),
       l.loop.invariant.2,
       l.loop.invariant.3,
     )
@@ -107,7 +107,7 @@ returns c =
     let l = c.before in
     let s = l.before.before.before.before.before.before.before.before in
     let z : l.loop.e ≡ 0 = omega arith in
-    index-filled (volumeOf s.args.v.now) s.args.first.now _ _ _ _ _ 0 s.requires.1.0.junctions (search rules)
+    index_filled (volume_of s.args.v.now) s.args.first.now _ _ _ _ _ 0 s.requires.1.0.junctions (search rules)
     (rw (l.before.before.before.fill.ensures, z) at l.loop.invariant.1)
 
 pub index-edges-spec : {M : Type 1} → statement M

@@ -1,5 +1,5 @@
 use borrow.Author.Rules.{rules}
-use Rattle.records.specs.Format.{volumeOf}
+use Rattle.records.specs.Format.{volume_of}
 use Rattle.records.proofs.tables.edge_from.Statement.{statement}
 use Rattle.records.proofs.tables.edge_from.Tie as tie
 
@@ -13,7 +13,7 @@ cast-result : tie.Need-overflow-cast-result
 cast-result c = search rules
 
 returns : tie.Need-returns
-unfolding volumeOf
+unfolding volume_of
 returns c = ((cc), search rules)
 
 pub edge-from-spec : {M : Type 1} → statement M

@@ -1,5 +1,5 @@
 use borrow.Author.Rules.{rules}
-use Rattle.records.specs.Format.{volumeOf}
+use Rattle.records.specs.Format.{volume_of}
 use Rattle.records.proofs.tables.point_at.Statement.{statement}
 use Rattle.records.proofs.tables.point_at.Tie as tie
 
@@ -16,10 +16,10 @@ cast-t8 : tie.Need-overflow-cast-t8
 cast-t8 c = search rules
 
 returns : tie.Need-returns
-unfolding volumeOf
+unfolding volume_of
 returns c =
     let L = c.before.before.before.before.before.requires.0.points in
-    record { second = (cc); duration = (cc); second_fits = search rules; duration-fits = search rules }
+    record { second = (cc); duration = (cc); second_fits = search rules; duration_fits = search rules }
 
 pub point-at-spec : {M : Type 1} → statement M
 point-at-spec =

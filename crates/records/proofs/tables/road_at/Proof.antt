@@ -2,8 +2,8 @@ use Prim.Native.Nat.{◌+◌, ◌*◌}
 use mathlib.Core.Path.{◌≡◌, ap, ◌∙◌}
 use native.Mathlib.Omega.{arith}
 use borrow.Author.Rules.{rules}
-use Rattle.block.specs.Word.{contentAt}
-use Rattle.records.specs.Format.{volumeOf, roadsAt, roadWords}
+use Rattle.block.specs.Word.{content_at}
+use Rattle.records.specs.Format.{volume_of, roads_at, road_words}
 use Rattle.records.proofs.tables.road_at.Statement.{statement}
 use Rattle.records.proofs.tables.road_at.Tie as tie
 
@@ -32,18 +32,18 @@ cast-t10 : tie.Need-overflow-cast-t10
 cast-t10 c = search rules
 
 returns : tie.Need-returns
-unfolding volumeOf
+unfolding volume_of
 returns c =
     let read = c.before.before.before.before in
     let w = read.before.before.record-at in
     let s = read.before.before.before.before in
-    let last : w.result + 2 + 1 ≡ roadsAt + roadWords * s.args.k + 3 = omega (arith, w.ensures) in record {
+    let last : w.result + 2 + 1 ≡ roads_at + road_words * s.args.k + 3 = omega (arith, w.ensures) in record {
       from = (cc);
       to = (cc);
       first = (cc);
-      points = read.content-pair2.ensures.1 ∙ ap (contentAt s.args.v.now) last;
+      points = read.content-pair2.ensures.1 ∙ ap (content_at s.args.v.now) last;
       first_fits = search rules;
-      points-fit = search rules;
+      points_fit = search rules;
     }
 
 pub road-at-spec : {M : Type 1} → statement M

@@ -1,20 +1,20 @@
 use mathlib.Core.Path.{sym, ◌∙◌}
 use native.Mathlib.Omega.{arith}
 use borrow.Author.Tests.{lt-ltb, le-ltb}
-use Rattle.rules.specs.Rules.{pairJoins}
+use Rattle.rules.specs.Rules.{pair_joins}
 use Rattle.rules.specs.Kept.{part}
-use Rattle.block.specs.Choose.{both_yes, both-no}
+use Rattle.block.specs.Choose.{both_yes, both_no}
 use borrow.Author.Rules.{rules}
 use Rattle.rules.proofs.edges.pair_joins.Statement.{statement}
 use Rattle.rules.proofs.edges.pair_joins.Tie as tie
 
 returns : tie.Need-returns
-unfolding pairJoins
-returns c = sym (both-no _ (le-ltb _ _ c.if1.true))
+unfolding pair_joins
+returns c = sym (both_no _ (le-ltb _ _ c.if1.true))
 
 returns-2 : tie.Need-returns-2
-unfolding pairJoins
-returns-2 c = sym (both_yes _ (lt-ltb _ _ c.before.if1.false) ∙ both-no _ (le-ltb _ _ c.if2.true))
+unfolding pair_joins
+returns-2 c = sym (both_yes _ (lt-ltb _ _ c.before.if1.false) ∙ both_no _ (le-ltb _ _ c.if2.true))
 
 kept-part-requires : tie.Need-kept-part-requires
 kept-part-requires c κs = let s = c.before.before.before.before in omega (arith, s.requires.room, s.requires.inside)
@@ -32,7 +32,7 @@ do-meet-requires : tie.Need-do-meet-requires
 do-meet-requires c κs = search rules
 
 returns-3 : tie.Need-returns-3
-unfolding pairJoins part
+unfolding pair_joins part
 returns-3 c =
     let d = c.before.before.before.before.before in
     let s = d.before.before.before.before in

@@ -65,9 +65,9 @@ same_length c = search rules
 returns : tie.Need-returns
 unfolding keeping
 returns c =
-    let f = c.before.before.edge-from.ensures.0 in
+    let f = c.before.before.edge_from.ensures.0 in
     let t = c.before.edge_to.ensures.0 in
-    let n = c.edge-span.ensures.0 in
+    let n = c.edge_span.ensures.0 in
     (cc)
 
 pub keep_spec : {M : Type 1} → statement M

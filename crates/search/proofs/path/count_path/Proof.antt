@@ -3,19 +3,19 @@ use mathlib.Core.Path.{refl}
 use native.Mathlib.Omega.{arith}
 use lib.ListN.{length, get_or}
 use borrow.Author.Rules.{rules}
-use Rattle.records.specs.Format.{volumeOf}
-use Rattle.search.specs.Path.{Driven, drive-none, drive-all, drive-enters, drive-more}
+use Rattle.records.specs.Format.{volume_of}
+use Rattle.search.specs.Path.{Driven, drive_none, drive_all, drive_enters, drive_more}
 use Rattle.search.proofs.path.count_path.Statement.{statement}
 use Rattle.search.proofs.path.count_path.Tie as tie
 
 abbrev invariant-loop : tie.invariant-loop
-invariant-loop v t trail x y₀ n₀ i₀ y n i = Driven (volumeOf v) trail x i y n
+invariant-loop v t trail x y₀ n₀ i₀ y n i = Driven (volume_of v) trail x i y n
 
 abbrev decreases-loop : tie.decreases-loop
 decreases-loop v t trail x y₀ n₀ i₀ y n i = length trail - i
 
 loop-holds : tie.Need-loop-init invariant-loop decreases-loop
-loop-holds c = let s = c.before.before in drive-none (volumeOf s.args.v.now) s.args.trail.now s.args.x
+loop-holds c = let s = c.before.before in drive_none (volume_of s.args.v.now) s.args.trail.now s.args.x
 
 mul-count-roads : tie.Need-overflow-mul-count-roads invariant-loop decreases-loop
 mul-count-roads c = search rules
@@ -30,20 +30,20 @@ count-roads-requires : tie.Need-count-roads-requires invariant-loop decreases-lo
 count-roads-requires c κs =
     let l = c.before.before in
     let s = l.before.before.before in
-    (s.requires.0, (s.requires.1.0, drive-enters s.requires.1.0 s.requires.1.1 l.loop.invariant c.before.loop-test.true (get_or s.args.trail.now l.loop.i 0) refl))
+    (s.requires.0, (s.requires.1.0, drive_enters s.requires.1.0 s.requires.1.1 l.loop.invariant c.before.loop-test.true (get_or s.args.trail.now l.loop.i 0) refl))
 
 add-n : tie.Need-overflow-add-n invariant-loop decreases-loop
 add-n c =
     let l = c.before.before.before.before in
     let s = l.before.before.before in
-    let D = drive-more s.requires.1.0 s.requires.1.1 l.loop.invariant c.before.before.before.loop-test.true (get_or s.args.trail.now l.loop.i 0) refl _ c.before.count-roads.ensures in
+    let D = drive_more s.requires.1.0 s.requires.1.1 l.loop.invariant c.before.before.before.loop-test.true (get_or s.args.trail.now l.loop.i 0) refl _ c.before.count-roads.ensures in
     omega (arith, D.few, s.requires.1.1.few)
 
 add-y : tie.Need-overflow-add-y invariant-loop decreases-loop
 add-y c =
     let l = c.before.before.before.before.before in
     let s = l.before.before.before in
-    let D = drive-more s.requires.1.0 s.requires.1.1 l.loop.invariant c.before.before.before.before.loop-test.true (get_or s.args.trail.now l.loop.i 0) refl _ c.before.before.count-roads.ensures in
+    let D = drive_more s.requires.1.0 s.requires.1.1 l.loop.invariant c.before.before.before.before.loop-test.true (get_or s.args.trail.now l.loop.i 0) refl _ c.before.before.count-roads.ensures in
     omega (arith, D.early, s.requires.1.1.few, s.requires.1.1.early)
 
 add-i : tie.Need-overflow-add-i invariant-loop decreases-loop
@@ -56,10 +56,10 @@ loop-again : tie.Need-loop-preserved invariant-loop decreases-loop
 loop-again c =
     let l = c.before.before.before.before.before in
     let s = l.before.before.before in
-    drive-more s.requires.1.0 s.requires.1.1 l.loop.invariant c.before.before.before.before.loop-test.true (get_or s.args.trail.now l.loop.i 0) refl _ c.before.before.count-roads.ensures
+    drive_more s.requires.1.0 s.requires.1.1 l.loop.invariant c.before.before.before.before.loop-test.true (get_or s.args.trail.now l.loop.i 0) refl _ c.before.before.count-roads.ensures
 
 returns : tie.Need-returns invariant-loop decreases-loop
-returns c = drive-all c.before.loop.invariant (omega arith)
+returns c = drive_all c.before.loop.invariant (omega arith)
 
 pub count-path-spec : {M : Type 1} → statement M
 count-path-spec =

@@ -1,5 +1,5 @@
 use borrow.Author.Rules.{rules}
-use Rattle.search.specs.Trail.{arc-none, arc-some}
+use Rattle.search.specs.Trail.{arc_none, arc_some}
 use Rattle.search.proofs.trail.arc_at.Statement.{statement}
 use Rattle.search.proofs.trail.arc_at.Tie as tie
 
@@ -13,7 +13,7 @@ shared-slice-read-if1 : tie.Need-shared-slice-read-if1
 shared-slice-read-if1 c = search rules
 
 returns : tie.Need-returns
-returns c = let s = c.before.before in arc-none s.args.states s.args.work.now s.args.s s.requires.0 c.if1.true
+returns c = let s = c.before.before in arc_none s.args.states s.args.work.now s.args.s s.requires.0 c.if1.true
 
 mul-result : tie.Need-overflow-mul-result
 mul-result c = search rules
@@ -28,7 +28,7 @@ shared-slice-read-result : tie.Need-shared-slice-read-result
 shared-slice-read-result c = search rules
 
 returns-2 : tie.Need-returns-2
-returns-2 c = let s = c.before.before.before in arc-some s.args.states s.args.work.now s.args.s s.requires.0 c.before.if1.false
+returns-2 c = let s = c.before.before.before in arc_some s.args.states s.args.work.now s.args.s s.requires.0 c.before.if1.false
 
 pub arc-at-spec : {M : Type 1} → statement M
 arc-at-spec =

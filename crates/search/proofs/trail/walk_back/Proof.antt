@@ -3,14 +3,14 @@ use mathlib.Core.Path.{◌≡◌}
 use native.Mathlib.Omega.{arith}
 use lib.ListN.{length, length-set}
 use borrow.Author.Rules.{rules}
-use Rattle.records.specs.Format.{volumeOf}
-use Rattle.search.specs.Trail.{Walked, walk_begins, arc-known, walk-home, walk-over, walk_turn, walk-edge}
+use Rattle.records.specs.Format.{volume_of}
+use Rattle.search.specs.Trail.{Walked, walk_begins, arc_known, walk_home, walk_over, walk_turn, walk_edge}
 use Rattle.search.proofs.trail.walk_back.Statement.{statement}
 use Rattle.search.proofs.trail.walk_back.Tie as tie
 
 abbrev invariant-loop : tie.invariant-loop
 invariant-loop v t n from to used work trail₀ at₀ s₀ left₀ trail at s left =
-    Walked (volumeOf v) from to used work left s at trail × (length trail ≡ length trail₀)
+    Walked (volume_of v) from to used work left s at trail × (length trail ≡ length trail₀)
 
 abbrev decreases-loop : tie.decreases-loop
 decreases-loop v t n from to used work trail₀ at₀ s₀ left₀ trail at s left = left
@@ -21,7 +21,7 @@ add-s c = search rules
 loop-holds : tie.Need-loop-init invariant-loop decreases-loop
 loop-holds c =
     let s = c.before.before.before in
-    (walk_begins (volumeOf s.args.v.now) s.args.n s.args.from s.args.to s.args.used s.args.work.now s.args.trail.now s.requires.1.1.0 s.requires.1.1.1, search rules)
+    (walk_begins (volume_of s.args.v.now) s.args.n s.args.from s.args.to s.args.used s.args.work.now s.args.trail.now s.requires.1.1.0 s.requires.1.1.1, search rules)
 
 same_length : tie.Need-same-length invariant-loop decreases-loop
 same_length c = search rules
@@ -29,7 +29,7 @@ same_length c = search rules
 returns : tie.Need-returns invariant-loop decreases-loop
 returns c =
     let l = c.before.before in
-    walk-home l.loop.invariant.0 c.if1.true
+    walk_home l.loop.invariant.0 c.if1.true
 
 sub-left : tie.Need-overflow-sub-left invariant-loop decreases-loop
 sub-left c = search rules
@@ -44,7 +44,7 @@ came-from-requires : tie.Need-came-from-requires invariant-loop decreases-loop
 came-from-requires c κs =
     let l = c.before.before.before in
     let s = l.before.before.before.before in
-    (s.requires.0, (s.requires.1.0, (s.requires.1.1.0.number, arc-known l.loop.invariant.0 s.args.n _ s.requires.1.1.0 c.arc-at.ensures)))
+    (s.requires.0, (s.requires.1.0, (s.requires.1.1.0.number, arc_known l.loop.invariant.0 s.args.n _ s.requires.1.1.0 c.arc-at.ensures)))
 
 sub_at : tie.Need-overflow-sub-at invariant-loop decreases-loop
 sub_at c = search rules
@@ -56,7 +56,7 @@ cast-trail : tie.Need-overflow-cast-trail invariant-loop decreases-loop
 cast-trail c =
     let l = c.before.before.before.before.before in
     let s = l.before.before.before.before in
-    omega (arith, arc-known l.loop.invariant.0 s.args.n _ s.requires.1.1.0 c.before.before.arc-at.ensures, s.requires.1.0.edges_few)
+    omega (arith, arc_known l.loop.invariant.0 s.args.n _ s.requires.1.1.0 c.before.before.arc-at.ensures, s.requires.1.0.edges_few)
 
 mul-trail : tie.Need-overflow-mul-trail invariant-loop decreases-loop
 mul-trail c = search rules
@@ -72,7 +72,7 @@ loop-again c =
     let l = c.before.before.before.before.before in
     let s = l.before.before.before.before in
     let k = c.before.before.arc-at in (
-      walk-edge l.loop.invariant.0 s.requires.1.0 s.args.n k.result _ s.requires.1.1.0 k.ensures c.before.came_from.ensures (omega arith) c.before.before.before.if1.false (k.result - 1) (omega arith),
+      walk_edge l.loop.invariant.0 s.requires.1.0 s.args.n k.result _ s.requires.1.1.0 k.ensures c.before.came_from.ensures (omega arith) c.before.before.before.if1.false (k.result - 1) (omega arith),
       rw length-set l.loop.invariant.1,
     )
 
@@ -94,7 +94,7 @@ same-length-2 c = search rules
 returns-2 : tie.Need-returns-2 invariant-loop decreases-loop
 returns-2 c =
     let l = c.before in
-    walk-over l.loop.invariant.0 (omega arith)
+    walk_over l.loop.invariant.0 (omega arith)
 
 pub walk-back-spec : {M : Type 1} → statement M
 walk-back-spec =

@@ -2,8 +2,8 @@ use Prim.Native.Nat.{◌+◌}
 use mathlib.Core.Path.{◌∙◌}
 use native.Mathlib.Omega.{arith}
 use borrow.Author.Rules.{rules}
-use Rattle.settle.specs.Offered.{rechained-offer}
-use Rattle.settle.specs.Walk.{turn-made, turn-unmarked, turn-none}
+use Rattle.settle.specs.Offered.{rechained_offer}
+use Rattle.settle.specs.Walk.{turn_made, turn_unmarked, turn_none}
 use Rattle.settle.proofs.arcs.offer_turn.Statement.{statement}
 use Rattle.settle.proofs.arcs.offer_turn.Tie as tie
 
@@ -25,19 +25,19 @@ returns c =
     let i = c.before.before.before.before in
     let s = i.before.before.before.before.before in
     let a = s.args in (
-      o.ensures.0 ∙ turn-made a.marks.now a.n a.s a.arrival a.head a.work.now i.before.before.if1.true i.if2.true,
-      rechained-offer (a.n + a.n) a.work.now a.head (a.n + a.s) a.arrival 0 (omega (arith, i.before.before.if1.true)) (omega (arith, s.requires.2)) _ _ o.ensures.0 o.ensures.1,
+      o.ensures.0 ∙ turn_made a.marks.now a.n a.s a.arrival a.head a.work.now i.before.before.if1.true i.if2.true,
+      rechained_offer (a.n + a.n) a.work.now a.head (a.n + a.s) a.arrival 0 (omega (arith, i.before.before.if1.true)) (omega (arith, s.requires.2)) _ _ o.ensures.0 o.ensures.1,
     )
 
 returns-2 : tie.Need-returns-2
 returns-2 c =
     let a = c.before.before.before.before.before.args in
-    (turn-unmarked a.marks.now a.n a.s a.arrival a.head a.work.now c.before.before.if1.true c.if2.false, λ C. C)
+    (turn_unmarked a.marks.now a.n a.s a.arrival a.head a.work.now c.before.before.if1.true c.if2.false, λ C. C)
 
 returns-3 : tie.Need-returns-3
 returns-3 c =
     let a = c.before.before.before.args in
-    (turn-none a.marks.now a.n a.s a.arrival a.head a.work.now c.if1.false, λ C. C)
+    (turn_none a.marks.now a.n a.s a.arrival a.head a.work.now c.if1.false, λ C. C)
 
 pub offer-turn-spec : {M : Type 1} → statement M
 offer-turn-spec =

@@ -1,7 +1,7 @@
 use native.Mathlib.Omega.{arith}
 use borrow.Author.Rules.{rules}
-use Rattle.records.specs.Format.{volumeOf}
-use Rattle.settle.specs.Walk.{unit-done}
+use Rattle.records.specs.Format.{volume_of}
+use Rattle.settle.specs.Walk.{unit_done}
 use Rattle.settle.proofs.arcs.settle_state.Statement.{statement}
 use Rattle.settle.proofs.arcs.settle_state.Tie as tie
 
@@ -25,7 +25,7 @@ returns c =
     let o = c.before.before.offer-arcs in
     let t = c.before.before.before.before.before.before in
     let s = t.before.before.before.before.before.before.before.before in (
-      λ d m. unit-done (volumeOf s.args.v.now) d s.args.s s.args.arrival s.args.c.junctions s.args.work.now _ _ s.requires.0.count
+      λ d m. unit_done (volume_of s.args.v.now) d s.args.s s.args.arrival s.args.c.junctions s.args.work.now _ _ s.requires.0.count
           t.take_out.ensures.0 (o.ensures.0 d m),
       o.ensures.1 t.take_out.ensures.1,
     )

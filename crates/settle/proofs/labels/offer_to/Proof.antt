@@ -3,7 +3,7 @@ use mathlib.Core.Path.{sym, ◌∙◌, ap}
 use mathlib.Core.List.{List}
 use lib.ListN.{set}
 use borrow.Author.Rules.{rules}
-use Rattle.settle.specs.Offered.{offer-fresh, offer-sooner, offer-later, offer-settled, head-fresh, head-stays}
+use Rattle.settle.specs.Offered.{offer_fresh, offer_sooner, offer_later, offer_settled, head_fresh, head_stays}
 use Rattle.settle.proofs.labels.offer_to.Statement.{statement}
 use Rattle.settle.proofs.labels.offer_to.Tie as tie
 
@@ -36,8 +36,8 @@ returns c =
     let p = c.before.before in
     let i = p.before.before.if1.true in
     let a = p.before.before.before.before.before.args in (
-      ap (λ (f : List ℕ). set f (4 * a.s + 3) a.head) p.put-label.ensures ∙ sym (offer-fresh a.work.now a.head a.s a.arrival a.arc i),
-      sym (head-fresh a.work.now a.head a.s i),
+      ap (λ (f : List ℕ). set f (4 * a.s + 3) a.head) p.put-label.ensures ∙ sym (offer_fresh a.work.now a.head a.s a.arrival a.arc i),
+      sym (head_fresh a.work.now a.head a.s i),
     )
 
 add-if3 : tie.Need-overflow-add-if3
@@ -60,23 +60,23 @@ returns-2 c =
     let i = c.before.before.before.before in
     let k = i.before.before in
     let a = k.before.before.before.before.args in (
-      c.before.before.put-label2.ensures ∙ sym (offer-sooner a.work.now a.head a.s a.arrival a.arc k.if2.true i.if3.true),
-      sym (head-stays a.work.now a.head a.s k.before.if1.false),
+      c.before.before.put-label2.ensures ∙ sym (offer_sooner a.work.now a.head a.s a.arrival a.arc k.if2.true i.if3.true),
+      sym (head_stays a.work.now a.head a.s k.before.if1.false),
     )
 
 returns-3 : tie.Need-returns-3
 returns-3 c =
     let k = c.before.before in
     let a = k.before.before.before.before.args in (
-      sym (offer-later a.work.now a.head a.s a.arrival a.arc k.if2.true c.if3.false),
-      sym (head-stays a.work.now a.head a.s k.before.if1.false),
+      sym (offer_later a.work.now a.head a.s a.arrival a.arc k.if2.true c.if3.false),
+      sym (head_stays a.work.now a.head a.s k.before.if1.false),
     )
 
 returns-4 : tie.Need-returns-4
 returns-4 c =
     let a = c.before.before.before.before.args in (
-      sym (offer-settled a.work.now a.head a.s a.arrival a.arc c.before.if1.false c.if2.false),
-      sym (head-stays a.work.now a.head a.s c.before.if1.false),
+      sym (offer_settled a.work.now a.head a.s a.arrival a.arc c.before.if1.false c.if2.false),
+      sym (head_stays a.work.now a.head a.s c.before.if1.false),
     )
 
 pub offer-to-spec : {M : Type 1} → statement M

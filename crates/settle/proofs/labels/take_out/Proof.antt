@@ -2,9 +2,9 @@ use Prim.Native.Nat.{◌*◌}
 use native.Mathlib.Omega.{arith}
 use lib.ListN.{length-set, set}
 use borrow.Author.Rules.{rules}
-use Rattle.settle.specs.Chain.{chained-first-out, chained-later-out}
-use Rattle.settle.specs.Walk.{holds-settled}
-use Rattle.settle.specs.Work.{holds_then, holds-spare}
+use Rattle.settle.specs.Chain.{chained_first_out, chained_later_out}
+use Rattle.settle.specs.Walk.{holds_settled}
+use Rattle.settle.specs.Work.{holds_then, holds_spare}
 use Rattle.theory.specs.Settling.{Table}
 use Rattle.settle.proofs.labels.take_out.Statement.{statement}
 use Rattle.settle.proofs.labels.take_out.Tie as tie
@@ -47,9 +47,9 @@ returns c =
     let s = c.before.before in
     let a = s.args in
     let w = a.work.now in (
-      holds_then a.states w (set w (4 * a.s) 2) _ _ (λ (L : Table). L) (holds-settled a.states w a.s s.requires.0.0 s.requires.0.1 s.requires.1.0)
-          (holds-spare a.states (set w (4 * a.s) 2) a.before _ c.if1.true),
-      chained-later-out a.states w a.head a.s s.requires.0.0 s.requires.0.1 s.requires.1.1.0 a.before c.if1.true s.requires.1.1.1,
+      holds_then a.states w (set w (4 * a.s) 2) _ _ (λ (L : Table). L) (holds_settled a.states w a.s s.requires.0.0 s.requires.0.1 s.requires.1.0)
+          (holds_spare a.states (set w (4 * a.s) 2) a.before _ c.if1.true),
+      chained_later_out a.states w a.head a.s s.requires.0.0 s.requires.0.1 s.requires.1.1.0 a.before c.if1.true s.requires.1.1.1,
     )
 
 same-length-2 : tie.Need-same-length-2
@@ -60,8 +60,8 @@ returns-2 c =
     let s = c.before.before in
     let a = s.args in
     let w = a.work.now in (
-      holds-settled a.states w a.s s.requires.0.0 s.requires.0.1 s.requires.1.0,
-      chained-first-out a.states w a.head a.s s.requires.0.0 s.requires.0.1 s.requires.1.1.0 a.before c.if1.false s.requires.1.1.1,
+      holds_settled a.states w a.s s.requires.0.0 s.requires.0.1 s.requires.1.0,
+      chained_first_out a.states w a.head a.s s.requires.0.0 s.requires.0.1 s.requires.1.1.0 a.before c.if1.false s.requires.1.1.1,
     )
 
 pub take-out-spec : {M : Type 1} → statement M

@@ -1,5 +1,5 @@
 use borrow.Author.Rules.{rules}
-use Rattle.settle.specs.Scan.{Scanned, steps, scan-first, scan-more, scan-less, scan-ends}
+use Rattle.settle.specs.Scan.{Scanned, steps, scan_first, scan_more, scan_less, scan_ends}
 use Rattle.settle.proofs.seen.least_waiting.Statement.{statement}
 use Rattle.settle.proofs.seen.least_waiting.Tie as tie
 
@@ -10,7 +10,7 @@ abbrev decreases-loop : tie.decreases-loop
 decreases-loop work states head best₀ before₀ t₀ best before t = steps states states work t
 
 loop-holds : tie.Need-loop-init invariant-loop decreases-loop
-loop-holds c = let s = c.before in scan-first s.args.states s.args.work.now s.args.head s.requires.1
+loop-holds c = let s = c.before in scan_first s.args.states s.args.work.now s.args.head s.requires.1
 
 mul_at : tie.Need-overflow-mul-at invariant-loop decreases-loop
 mul_at c = search rules
@@ -40,19 +40,19 @@ loop-less : tie.Need-loop-smaller invariant-loop decreases-loop
 loop-less c =
     let l = c.before.before.before.before in
     let a = l.before.before.args in
-    scan-less a.states a.work.now a.head l.loop.best l.loop.before l.loop.t l.loop.invariant c.before.before.before.loop-test.true
+    scan_less a.states a.work.now a.head l.loop.best l.loop.before l.loop.t l.loop.invariant c.before.before.before.loop-test.true
 
 loop-again : tie.Need-loop-preserved invariant-loop decreases-loop
 loop-again c =
     let l = c.before.before.before.before in
     let a = l.before.before.args in
-    rw c.before.sooner.ensures (scan-more a.states a.work.now a.head l.loop.best l.loop.before l.loop.t l.loop.invariant c.before.before.before.loop-test.true)
+    rw c.before.sooner.ensures (scan_more a.states a.work.now a.head l.loop.best l.loop.before l.loop.t l.loop.invariant c.before.before.before.loop-test.true)
 
 returns : tie.Need-returns invariant-loop decreases-loop
 returns c =
     let l = c.before in
     let a = l.before.before.args in
-    (scan-ends a.states a.work.now a.head l.loop.best l.loop.before l.loop.t l.loop.invariant c.loop-test.false, l.loop.invariant.linked)
+    (scan_ends a.states a.work.now a.head l.loop.best l.loop.before l.loop.t l.loop.invariant c.loop-test.false, l.loop.invariant.linked)
 
 pub least-waiting-spec : {M : Type 1} → statement M
 least-waiting-spec =

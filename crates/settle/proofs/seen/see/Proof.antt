@@ -1,7 +1,7 @@
 use mathlib.Core.Path.{sym, ◌∙◌, ap}
 use borrow.Author.Rules.{rules}
-use Rattle.settle.specs.Scan.{pick_of, pick-linked}
-use Rattle.settle.specs.Seen.{see-nothing, see-destination, see-later, see-next}
+use Rattle.settle.specs.Scan.{pick_of, pick_linked}
+use Rattle.settle.specs.Seen.{see_nothing, see_destination, see_later, see_next}
 use Rattle.settle.proofs.seen.see.Statement.{statement}
 use Rattle.settle.proofs.seen.see.Tie as tie
 
@@ -18,7 +18,7 @@ returns : tie.Need-returns
 returns c =
     let s = c.before.before.before.before in
     let a = s.args in
-    (see-nothing a.states a.work.now a.home s.requires.1 _ (sym (ap pick_of c.enum_told.given.1) ∙ c.before.before.least-waiting.ensures.0), tt)
+    (see_nothing a.states a.work.now a.home s.requires.1 _ (sym (ap pick_of c.enum_told.given.1) ∙ c.before.before.least-waiting.ensures.0), tt)
 
 mul_at : tie.Need-overflow-mul-at
 mul_at c = search rules
@@ -43,7 +43,7 @@ returns-2 c =
     let b = c.before.before.before.before.before in
     let s = b.before.before.before.before in
     let a = s.args in (
-      see-destination a.states a.work.now a.home s.requires.1 _ _ _ (sym (ap pick_of b.best.given.1) ∙ b.before.before.least-waiting.ensures.0)
+      see_destination a.states a.work.now a.home s.requires.1 _ _ _ (sym (ap pick_of b.best.given.1) ∙ b.before.before.least-waiting.ensures.0)
           c.before.before.if1.true c.if2.true,
       tt,
     )
@@ -53,9 +53,9 @@ returns-3 c =
     let b = c.before.before.before.before.before in
     let s = b.before.before.before.before in
     let a = s.args in (
-      see-later a.states a.work.now a.home s.requires.1 _ _ _ (sym (ap pick_of b.best.given.1) ∙ b.before.before.least-waiting.ensures.0)
+      see_later a.states a.work.now a.home s.requires.1 _ _ _ (sym (ap pick_of b.best.given.1) ∙ b.before.before.least-waiting.ensures.0)
           c.before.before.if1.true c.if2.false,
-      pick-linked a.states a.work.now a.head _ _ _ _ b.best.given.1 b.before.before.least-waiting.ensures.1,
+      pick_linked a.states a.work.now a.head _ _ _ _ b.best.given.1 b.before.before.least-waiting.ensures.1,
     )
 
 returns-4 : tie.Need-returns-4
@@ -63,9 +63,9 @@ returns-4 c =
     let b = c.before.before.before in
     let s = b.before.before.before.before in
     let a = s.args in (
-      see-next a.states a.work.now a.home s.requires.1 _ _ _ (sym (ap pick_of b.best.given.1) ∙ b.before.before.least-waiting.ensures.0)
+      see_next a.states a.work.now a.home s.requires.1 _ _ _ (sym (ap pick_of b.best.given.1) ∙ b.before.before.least-waiting.ensures.0)
           c.if1.false,
-      pick-linked a.states a.work.now a.head _ _ _ _ b.best.given.1 b.before.before.least-waiting.ensures.1,
+      pick_linked a.states a.work.now a.head _ _ _ _ b.best.given.1 b.before.before.least-waiting.ensures.1,
     )
 
 pub see-spec : {M : Type 1} → statement M

@@ -1,5 +1,5 @@
 use borrow.Author.Rules.{rules}
-use Rattle.settle.specs.Seen.{upper-at, upper-none}
+use Rattle.settle.specs.Seen.{upper_at, upper_none}
 use Rattle.settle.proofs.seen.upper.Statement.{statement}
 use Rattle.settle.proofs.seen.upper.Tie as tie
 
@@ -22,10 +22,10 @@ shared-slice-read-t11 : tie.Need-shared-slice-read-t11
 shared-slice-read-t11 c = search rules
 
 returns : tie.Need-returns
-returns c = upper-at _ _ _ c.before.if1.true
+returns c = upper_at _ _ _ c.before.if1.true
 
 returns-2 : tie.Need-returns-2
-returns-2 c = upper-none _ _ _ c.if1.false
+returns-2 c = upper_none _ _ _ c.if1.false
 
 pub upper-spec : {M : Type 1} → statement M
 upper-spec =

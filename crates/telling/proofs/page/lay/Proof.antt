@@ -3,7 +3,7 @@ use mathlib.Core.Path.{◌≡◌, ap, sym, ◌∙◌}
 use lib.ListN.{length}
 use borrow.Author.Rules.{rules}
 use Rattle.block.specs.Seal.{sealed}
-use Rattle.block.specs.Promises.{sealed-twice}
+use Rattle.block.specs.Promises.{sealed_twice}
 use Rattle.telling.proofs.page.lay.Statement.{statement}
 use Rattle.telling.proofs.page.lay.Tie as tie
 
@@ -67,7 +67,7 @@ same_length c = search rules
 returns : tie.Need-returns invariant-loop decreases-loop
 returns c =
     let e = c.before.before.seal.ensures.1 in
-    ap sealed e ∙ sealed-twice _ ∙ sym e
+    ap sealed e ∙ sealed_twice _ ∙ sym e
 
 pub lay-spec : {M : Type 1} → statement M
 lay-spec =

@@ -1,7 +1,7 @@
 use Prim.Native.Nat.{◌%◌}
 use mathlib.Core.Path.{sym, ◌∙◌}
 use borrow.Author.Rules.{rules}
-use Rattle.telling.specs.Page.{put-inside, put-past}
+use Rattle.telling.specs.Page.{put_inside, put_past}
 use Rattle.telling.proofs.page.put.Statement.{statement}
 use Rattle.telling.proofs.page.put.Tie as tie
 
@@ -20,12 +20,12 @@ same_length c = search rules
 returns : tie.Need-returns
 returns c =
     let a = c.before.before.before.before.before.before.args in
-    c.before.before.put_word.ensures ∙ sym (put-inside a.v.now (a.w % 1000000) a.x c.before.before.before.before.if1.true)
+    c.before.before.put_word.ensures ∙ sym (put_inside a.v.now (a.w % 1000000) a.x c.before.before.before.before.if1.true)
 
 returns-2 : tie.Need-returns-2
 returns-2 c =
     let a = c.before.before.args in
-    sym (put-past a.v.now (a.w % 1000000) a.x c.if1.false)
+    sym (put_past a.v.now (a.w % 1000000) a.x c.if1.false)
 
 pub put_spec : {M : Type 1} → statement M
 put_spec = tie.close (tie.spec mul-i add-i put-word-requires same_length returns returns-2)

@@ -3,18 +3,18 @@ use mathlib.Core.Path.{◌≡◌, refl}
 use native.Mathlib.Omega.{arith}
 use lib.ListN.{length}
 use borrow.Author.Rules.{rules}
-use Rattle.telling.specs.Page.{putRow, putRow-next}
+use Rattle.telling.specs.Page.{put_row, put_row_next}
 use Rattle.telling.proofs.page.put_row.Statement.{statement}
 use Rattle.telling.proofs.page.put_row.Tie as tie
 
 abbrev invariant-loop : tie.invariant-loop
-invariant-loop v₀ w row i₀ v i = (i ≤ length row) × (v ≡ putRow v₀ w row i) × (length v ≡ length v₀)
+invariant-loop v₀ w row i₀ v i = (i ≤ length row) × (v ≡ put_row v₀ w row i) × (length v ≡ length v₀)
 
 abbrev decreases-loop : tie.decreases-loop
 decreases-loop v₀ w row i₀ v i = length row - i
 
 loop-holds : tie.Need-loop-init invariant-loop decreases-loop
-unfolding putRow
+unfolding put_row
 loop-holds c = (search rules, refl, refl)
 
 add-put : tie.Need-overflow-add-put invariant-loop decreases-loop
@@ -39,7 +39,7 @@ loop-again : tie.Need-loop-preserved invariant-loop decreases-loop
 loop-again c =
     let l = c.before.before.before.before.before.before in
     let a = l.before.before.before.args in
-    (search rules, cc (putRow-next a.v.now a.w a.row.now l.loop.i), search rules)
+    (search rules, cc (put_row_next a.v.now a.w a.row.now l.loop.i), search rules)
 
 same_length : tie.Need-same-length invariant-loop decreases-loop
 same_length c = search rules

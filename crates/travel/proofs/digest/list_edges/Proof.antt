@@ -3,8 +3,8 @@ use mathlib.Core.List.{List}
 use mathlib.Core.Path.{◌≡◌, refl, ◌∙◌, ap}
 use native.Mathlib.Omega.{arith}
 use lib.ListN.{length, length-set, set}
-use Rattle.records.specs.Format.{volumeOf}
-use Rattle.travel.specs.Digest.{piecesFrom, listed, listed-none, listed_more, pieces-start, pieces-next, pieces-inside}
+use Rattle.records.specs.Format.{volume_of}
+use Rattle.travel.specs.Digest.{pieces_from, listed, listed_none, listed_more, pieces_start, pieces_next, pieces_inside}
 use borrow.Author.Rules.{rules}
 use Rattle.travel.proofs.digest.list_edges.Statement.{statement}
 use Rattle.travel.proofs.digest.list_edges.Tie as tie
@@ -13,8 +13,8 @@ use Rattle.travel.proofs.digest.list_edges.Tie as tie
 abbrev invariant-loop : tie.invariant-loop
 invariant-loop v t edges digest₀ word₀ e₀ digest word e =
     (e ≤ edges)
-    × (word ≡ piecesFrom (volumeOf v) e)
-    × ((l : List ℕ) → digest₀ ≡ listed 0 (piecesFrom (volumeOf v)) 1 l → digest ≡ listed 0 (piecesFrom (volumeOf v)) (e + 1) l)
+    × (word ≡ pieces_from (volume_of v) e)
+    × ((l : List ℕ) → digest₀ ≡ listed 0 (pieces_from (volume_of v)) 1 l → digest ≡ listed 0 (pieces_from (volume_of v)) (e + 1) l)
     × (length digest ≡ length digest₀)
 
 abbrev decreases-loop : tie.decreases-loop
@@ -28,16 +28,16 @@ module _ (c : tie.After-edge-pieces invariant-loop decreases-loop) where
   abbrev start : tie.Start invariant-loop decreases-loop
   start = at-loop.before.before.before
 
-  inside : at-loop.loop.e < (volumeOf start.args.v.now).edges
+  inside : at-loop.loop.e < (volume_of start.args.v.now).edges
   inside = omega (arith, start.pre.1.1.0, c.before.loop-test.true)
 
-  next_word : at-loop.loop.word + 3 * c.edge-pieces.result ≡ piecesFrom (volumeOf start.args.v.now) (at-loop.loop.e + 1)
-  next_word = pieces-next start.pre.1.0 at-loop.loop.e inside _ _ at-loop.loop.inv.1 c.edge-pieces.ensures.0
+  next_word : at-loop.loop.word + 3 * c.edge_pieces.result ≡ pieces_from (volume_of start.args.v.now) (at-loop.loop.e + 1)
+  next_word = pieces_next start.pre.1.0 at-loop.loop.e inside _ _ at-loop.loop.inv.1 c.edge_pieces.ensures.0
 
-  short : at-loop.loop.word + 3 * c.edge-pieces.result < 4294967296
+  short : at-loop.loop.word + 3 * c.edge_pieces.result < 4294967296
   short =
       let L = start.pre.0 in
-      omega (arith, L.limit, next_word, pieces-inside start.pre.1.0 at-loop.loop.e inside)
+      omega (arith, L.limit, next_word, pieces_inside start.pre.1.0 at-loop.loop.e inside)
 
 cast-digest : tie.Need-overflow-cast-digest invariant-loop decreases-loop
 cast-digest c = search rules
@@ -46,7 +46,7 @@ slice-write-digest : tie.Need-slice-write-digest invariant-loop decreases-loop
 slice-write-digest c = search rules
 
 loop-holds : tie.Need-loop-init invariant-loop decreases-loop
-loop-holds c = let s = c.before.before in (search rules, pieces-start (volumeOf s.args.v.now) s.args.t.pieces s.requires.0.pieces, (λ l q. q), refl)
+loop-holds c = let s = c.before.before in (search rules, pieces_start (volume_of s.args.v.now) s.args.t.pieces s.requires.0.pieces, (λ l q. q), refl)
 
 edge-pieces-requires : tie.Need-edge-pieces-requires invariant-loop decreases-loop
 edge-pieces-requires c κs = search rules
@@ -85,8 +85,8 @@ loop-again c =
       search rules,
       next_word c,
       (λ (m : List ℕ) q.
-          ap (λ (j : ℕ). set d j (l.loop.word + 3 * c.edge-pieces.result)) z
-          ∙ listed_more 0 (piecesFrom (volumeOf (start c).args.v.now)) (e + 1) m d _ (l.loop.inv.2 m q) (next_word c)),
+          ap (λ (j : ℕ). set d j (l.loop.word + 3 * c.edge_pieces.result)) z
+          ∙ listed_more 0 (pieces_from (volume_of (start c).args.v.now)) (e + 1) m d _ (l.loop.inv.2 m q) (next_word c)),
       length-set d (e + 1) _ ∙ l.loop.inv.3,
     )
 
@@ -100,11 +100,11 @@ returns : tie.Need-returns invariant-loop decreases-loop
 returns c =
     let l = c.before in
     let s = l.before.before.before in
-    let vol = volumeOf s.args.v.now in
+    let vol = volume_of s.args.v.now in
     let m = s.args.digest.now in
-    let start = listed_more 0 (piecesFrom vol) 0 m m _ (listed-none 0 (piecesFrom vol) m) (pieces-start vol s.args.t.pieces s.requires.0.pieces) in
+    let start = listed_more 0 (pieces_from vol) 0 m m _ (listed_none 0 (pieces_from vol) m) (pieces_start vol s.args.t.pieces s.requires.0.pieces) in
     let e : l.loop.e ≡ s.args.edges = omega arith in
-    l.loop.invariant.2 m start ∙ ap (λ (n : ℕ). listed 0 (piecesFrom vol) (n + 1) m) e
+    l.loop.invariant.2 m start ∙ ap (λ (n : ℕ). listed 0 (pieces_from vol) (n + 1) m) e
 
 pub list-edges-spec : {M : Type 1} → statement M
 list-edges-spec =

@@ -2,8 +2,8 @@ use Prim.Native.Nat.{ℕ, ◌+◌, ◌≤◌, ◌-◌}
 use mathlib.Core.Path.{◌≡◌, refl, ◌∙◌, ap, ap₂}
 use native.Mathlib.Omega.{arith}
 use lib.ListN.{length, length-set}
-use Rattle.records.specs.Format.{volumeOf}
-use Rattle.travel.specs.Digest.{steadyOf, steadyBack, listed, listed-none, listed_more}
+use Rattle.records.specs.Format.{volume_of}
+use Rattle.travel.specs.Digest.{steady_of, steady_back, listed, listed_none, listed_more}
 use borrow.Author.Rules.{rules}
 use Rattle.travel.proofs.digest.list_roads.Statement.{statement}
 use Rattle.travel.proofs.digest.list_roads.Tie as tie
@@ -12,7 +12,7 @@ abbrev invariant-loop : tie.invariant-loop
 invariant-loop v t roads digest₀ begin i₀ digest i =
     (i ≤ roads)
     × (begin ≡ length digest₀ - roads)
-    × (digest ≡ listed begin (steadyBack (volumeOf v)) i digest₀)
+    × (digest ≡ listed begin (steady_back (volume_of v)) i digest₀)
     × (length digest ≡ length digest₀)
 
 abbrev decreases-loop : tie.decreases-loop
@@ -24,7 +24,7 @@ sub-begin c = search rules
 loop-holds : tie.Need-loop-init invariant-loop decreases-loop
 loop-holds c =
     let a = c.before.before.args in
-    (search rules, refl, listed-none (length a.digest.now - a.roads) (steadyBack (volumeOf a.v.now)) a.digest.now, refl)
+    (search rules, refl, listed_none (length a.digest.now - a.roads) (steady_back (volume_of a.v.now)) a.digest.now, refl)
 
 sub-steady : tie.Need-overflow-sub-steady invariant-loop decreases-loop
 sub-steady c = search rules
@@ -59,12 +59,12 @@ loop-again : tie.Need-loop-preserved invariant-loop decreases-loop
 loop-again c =
     let l = c.before.before in
     let s = l.before.before.before in
-    let vol = volumeOf s.args.v.now in
+    let vol = volume_of s.args.v.now in
     let i = l.loop.i in
-    let r = c.steady.ensures.0 ∙ ap (λ (n : ℕ). steadyOf vol (n - 1 - i)) s.requires.1.1.0 in (
+    let r = c.steady.ensures.0 ∙ ap (λ (n : ℕ). steady_of vol (n - 1 - i)) s.requires.1.1.0 in (
       search rules,
       l.loop.invariant.1,
-      listed_more (length s.args.digest.now - s.args.roads) (steadyBack vol) i s.args.digest.now l.loop.digest _ l.loop.invariant.2 r,
+      listed_more (length s.args.digest.now - s.args.roads) (steady_back vol) i s.args.digest.now l.loop.digest _ l.loop.invariant.2 r,
       length-set l.loop.digest _ _ ∙ l.loop.invariant.3,
     )
 
@@ -75,9 +75,9 @@ returns : tie.Need-returns invariant-loop decreases-loop
 returns c =
     let l = c.before in
     let s = l.before.before.before in
-    let vol = volumeOf s.args.v.now in
+    let vol = volume_of s.args.v.now in
     let e : l.loop.i ≡ s.args.roads = omega arith in
-    l.loop.invariant.2 ∙ ap₂ (λ (o n : ℕ). listed o (steadyBack vol) n s.args.digest.now) l.loop.invariant.1 e
+    l.loop.invariant.2 ∙ ap₂ (λ (o n : ℕ). listed o (steady_back vol) n s.args.digest.now) l.loop.invariant.1 e
 
 pub list-roads-spec : {M : Type 1} → statement M
 list-roads-spec =

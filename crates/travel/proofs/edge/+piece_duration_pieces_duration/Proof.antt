@@ -1,11 +1,11 @@
 use Prim.Native.Nat.{ℕ, ◌+◌, ◌*◌, ◌%◌, ◌<◌}
 use mathlib.Core.Path.{refl, sym, ◌∙◌}
 use native.Mathlib.Omega.{arith}
-use Rattle.records.specs.Format.{volumeOf}
+use Rattle.records.specs.Format.{volume_of}
 use Rattle.travel.specs.Network.{piece_at}
 use Rattle.travel.specs.Digest.{stands}
-use Rattle.travel.specs.PieceWords.{force-held, force-read}
-use Rattle.travel.specs.Halves.{InHand, edge-by-piece, road-there, road-arrives, halves, halves-arrive}
+use Rattle.travel.specs.PieceWords.{force_held, force_read}
+use Rattle.travel.specs.Halves.{InHand, edge_by_piece, road_there, road_arrives, halves, halves_arrive}
 use native.Mathlib.Nat.{le_refl}
 use borrow.Author.Rules.{rules}
 use borrow.Fn.Kinds.{In}
@@ -72,21 +72,21 @@ pieces-duration-returns t c = c.piece-duration.ensures
 
 -- the piece in force, once its left and right are read
 in-hand : (t : ℕ) (c : piece-duration-lts.After-content2 (piece-calls t) (piece-duration-at t) piece-duration.Post)
-    → InHand (volumeOf c.before.before.before.before.args.v.now) c.before.before.before.before.args.e c.before.before.before.before.args.x (piece_at (volumeOf c.before.before.before.before.args.v.now) c.before.before.before.before.args.e (c.before.before.before.before.args.x % (volumeOf c.before.before.before.before.args.v.now).period))
+    → InHand (volume_of c.before.before.before.before.args.v.now) c.before.before.before.before.args.e c.before.before.before.before.args.x (piece_at (volume_of c.before.before.before.before.args.v.now) c.before.before.before.before.args.e (c.before.before.before.before.args.x % (volume_of c.before.before.before.before.args.v.now).period))
     c.before.content.result c.content2.result
 in-hand t c =
     let s = c.before.before.before.before in
-    (force-read s.requires.1.0 s.requires.1.1.0 s.args.e s.args.x _ s.requires.1.1.1.1.0 s.requires.1.1.1.1.1 _ _ c.before.content.ensures c.content2.ensures).hand
+    (force_read s.requires.1.0 s.requires.1.1.0 s.args.e s.args.x _ s.requires.1.1.1.1.0 s.requires.1.1.1.1.1 _ _ c.before.content.ensures c.content2.ensures).hand
 
 piece-duration-add-content : (t : ℕ) → piece-duration-lts.Need-overflow-add-content (piece-calls t) (piece-duration-at t) piece-duration.Post
 piece-duration-add-content t c =
     let s = c.before.before in
-    omega (arith, force-held s.requires.1.0 s.requires.1.1.0 s.args.e s.args.x _ s.requires.1.1.1.1.0 s.requires.1.1.1.1.1 1 (omega arith))
+    omega (arith, force_held s.requires.1.0 s.requires.1.1.0 s.args.e s.args.x _ s.requires.1.1.1.1.0 s.requires.1.1.1.1.1 1 (omega arith))
 
 piece-duration-content-requires : (t : ℕ) → piece-duration-lts.Need-content-requires (piece-calls t) (piece-duration-at t) piece-duration.Post
 piece-duration-content-requires t c κs =
     let s = c.before.before in
-    force-held s.requires.1.0 s.requires.1.1.0 s.args.e s.args.x _ s.requires.1.1.1.1.0 s.requires.1.1.1.1.1 1 (omega arith)
+    force_held s.requires.1.0 s.requires.1.1.0 s.args.e s.args.x _ s.requires.1.1.1.1.0 s.requires.1.1.1.1.1 1 (omega arith)
 
 piece-duration-cast-left : (t : ℕ) → piece-duration-lts.Need-overflow-cast-left (piece-calls t) (piece-duration-at t) piece-duration.Post
 piece-duration-cast-left t c = search rules
@@ -94,12 +94,12 @@ piece-duration-cast-left t c = search rules
 piece-duration-add-content-2 : (t : ℕ) → piece-duration-lts.Need-overflow-add-content-2 (piece-calls t) (piece-duration-at t) piece-duration.Post
 piece-duration-add-content-2 t c =
     let s = c.before.before.before in
-    omega (arith, force-held s.requires.1.0 s.requires.1.1.0 s.args.e s.args.x _ s.requires.1.1.1.1.0 s.requires.1.1.1.1.1 2 (omega arith))
+    omega (arith, force_held s.requires.1.0 s.requires.1.1.0 s.args.e s.args.x _ s.requires.1.1.1.1.0 s.requires.1.1.1.1.1 2 (omega arith))
 
 piece-duration-content-requires-2 : (t : ℕ) → piece-duration-lts.Need-content-requires-2 (piece-calls t) (piece-duration-at t) piece-duration.Post
 piece-duration-content-requires-2 t c κs =
     let s = c.before.before.before in
-    force-held s.requires.1.0 s.requires.1.1.0 s.args.e s.args.x _ s.requires.1.1.1.1.0 s.requires.1.1.1.1.1 2 (omega arith)
+    force_held s.requires.1.0 s.requires.1.1.0 s.args.e s.args.x _ s.requires.1.1.1.1.0 s.requires.1.1.1.1.1 2 (omega arith)
 
 piece-duration-cast-right : (t : ℕ) → piece-duration-lts.Need-overflow-cast-right (piece-calls t) (piece-duration-at t) piece-duration.Post
 piece-duration-cast-right t c = search rules
@@ -107,56 +107,56 @@ piece-duration-cast-right t c = search rules
 piece-duration-road-lasts-requires : (t : ℕ) → piece-duration-lts.Need-road-lasts-requires (piece-calls t) (piece-duration-at t) piece-duration.Post
 piece-duration-road-lasts-requires t c κs =
     let s = c.before.before.before.before.before in
-    (s.requires.1.0, (s.requires.1.1.0, (s.requires.1.1.1.0, road-there (in-hand t c.before) c.if1.true)))
+    (s.requires.1.0, (s.requires.1.1.0, (s.requires.1.1.1.0, road_there (in-hand t c.before) c.if1.true)))
 
 piece-duration-returns : (t : ℕ) → piece-duration-lts.Need-returns (piece-calls t) (piece-duration-at t) piece-duration.Post
 piece-duration-returns t c =
     let d = c.before in
     let s = d.before.before.before.before.before in
-    road-arrives (in-hand t d.before) d.if1.true _ c.road-lasts.ensures
-    ∙ sym (edge-by-piece _ s.requires.1.1.0 s.args.e s.args.x _ s.requires.1.1.1.1.0.there refl)
+    road_arrives (in-hand t d.before) d.if1.true _ c.road_lasts.ensures
+    ∙ sym (edge_by_piece _ s.requires.1.1.0 s.args.e s.args.x _ s.requires.1.1.1.1.0.there refl)
 
 piece-duration-pieces-at-requires : (t : ℕ) → piece-duration-lts.Need-pieces-at-requires (piece-calls t) (piece-duration-at t) piece-duration.Post
 piece-duration-pieces-at-requires t c κs =
     let d = c in
     let s = d.before.before.before.before.before in
     let H = halves (in-hand t d.before) d.if1.left in
-    omega (arith, s.pre.1.1.1.0.room, s.pre.1.1.1.1.0.there, H.left_below, H.right-below)
+    omega (arith, s.pre.1.1.1.0.room, s.pre.1.1.1.1.0.there, H.left_below, H.right_below)
 
 piece-duration-add-pieces-at : (t : ℕ) → piece-duration-lts.Need-overflow-add-pieces-at (piece-calls t) (piece-duration-at t) piece-duration.Post
 piece-duration-add-pieces-at t c =
     let d = c.before in
     let s = d.before.before.before.before.before in
     let H = halves (in-hand t d.before) d.if1.false in
-    omega (arith, s.requires.1.1.0.edges_few, s.requires.1.1.1.1.0.there, H.left_below, H.right-below)
+    omega (arith, s.requires.1.1.0.edges_few, s.requires.1.1.1.1.0.there, H.left_below, H.right_below)
 
 piece-duration-pieces-at-requires-2 : (t : ℕ) → piece-duration-lts.Need-pieces-at-requires-2 (piece-calls t) (piece-duration-at t) piece-duration.Post
 piece-duration-pieces-at-requires-2 t c κs =
     let d = c.before in
     let s = d.before.before.before.before.before in
     let H = halves (in-hand t d.before) d.if1.false in
-    omega (arith, s.requires.1.1.1.0.room, s.requires.1.1.1.1.0.there, H.left_below, H.right-below)
+    omega (arith, s.requires.1.1.1.0.room, s.requires.1.1.1.1.0.there, H.left_below, H.right_below)
 
 piece-duration-pieces-at-requires-3 : (t : ℕ) → piece-duration-lts.Need-pieces-at-requires-3 (piece-calls t) (piece-duration-at t) piece-duration.Post
 piece-duration-pieces-at-requires-3 t c κs =
     let d = c.before.before in
     let s = d.before.before.before.before.before in
     let H = halves (in-hand t d.before) d.if1.false in
-    omega (arith, s.requires.1.1.1.0.room, s.requires.1.1.1.1.0.there, H.left_below, H.right-below)
+    omega (arith, s.requires.1.1.1.0.room, s.requires.1.1.1.1.0.there, H.left_below, H.right_below)
 
 piece-duration-add-pieces-at-2 : (t : ℕ) → piece-duration-lts.Need-overflow-add-pieces-at-2 (piece-calls t) (piece-duration-at t) piece-duration.Post
 piece-duration-add-pieces-at-2 t c =
     let d = c.before.before.before in
     let s = d.before.before.before.before.before in
     let H = halves (in-hand t d.before) d.if1.false in
-    omega (arith, s.requires.1.1.0.edges_few, s.requires.1.1.1.1.0.there, H.left_below, H.right-below)
+    omega (arith, s.requires.1.1.0.edges_few, s.requires.1.1.1.1.0.there, H.left_below, H.right_below)
 
 piece-duration-pieces-at-requires-4 : (t : ℕ) → piece-duration-lts.Need-pieces-at-requires-4 (piece-calls t) (piece-duration-at t) piece-duration.Post
 piece-duration-pieces-at-requires-4 t c κs =
     let d = c.before.before.before in
     let s = d.before.before.before.before.before in
     let H = halves (in-hand t d.before) d.if1.false in
-    omega (arith, s.requires.1.1.1.0.room, s.requires.1.1.1.1.0.there, H.left_below, H.right-below)
+    omega (arith, s.requires.1.1.1.0.room, s.requires.1.1.1.1.0.there, H.left_below, H.right_below)
 
 piece-duration-pieces-duration-requires : (t : ℕ) → piece-duration-lts.Need-pieces-duration-requires (piece-calls t) (piece-duration-at t) piece-duration.Post
 piece-duration-pieces-duration-requires t c κs =
@@ -183,8 +183,8 @@ piece-duration-pieces-duration-requires-2 t c κs =
     let H = halves (in-hand t d.before) d.if1.false in
     let S = s.requires.1.1.0 in
     let D = s.requires.1.1.1.0 in
-    let m : 2 * d.before.content2.result + 1 < t = omega (arith, s.requires.0, H.right-below) in
-    let B = stands S D d.before.content2.result (omega (arith, H.right-below, s.requires.1.1.1.1.0.there)) _ _ c.before.before.pieces-at3.ensures.0 c.before.pieces-at4.ensures.0 in
+    let m : 2 * d.before.content2.result + 1 < t = omega (arith, s.requires.0, H.right_below) in
+    let B = stands S D d.before.content2.result (omega (arith, H.right_below, s.requires.1.1.1.1.0.there)) _ _ c.before.before.pieces-at3.ensures.0 c.before.pieces-at4.ensures.0 in
     (m, (s.requires.1.0, (S, (D, (H.right _ (omega (arith, c.pieces-duration.ensures)), B)))))
 
 piece-duration-add-result : (t : ℕ) → piece-duration-lts.Need-overflow-add-result (piece-calls t) (piece-duration-at t) piece-duration.Post
@@ -198,8 +198,8 @@ piece-duration-returns-2 : (t : ℕ) → piece-duration-lts.Need-returns-2 (piec
 piece-duration-returns-2 t c =
     let d = c.before.before.before.before.before.before in
     let s = d.before.before.before.before.before in
-    halves-arrive (in-hand t d.before) d.if1.false _ _ c.before.pieces-duration.ensures c.pieces-duration2.ensures
-    ∙ sym (edge-by-piece _ s.requires.1.1.0 s.args.e s.args.x _ s.requires.1.1.1.1.0.there refl)
+    halves_arrive (in-hand t d.before) d.if1.false _ _ c.before.pieces-duration.ensures c.pieces-duration2.ensures
+    ∙ sym (edge_by_piece _ s.requires.1.1.0 s.args.e s.args.x _ s.requires.1.1.1.1.0.there refl)
 
 pub +piece-duration-pieces-duration-spec : {M : Type 1} → statement M
 +piece-duration-pieces-duration-spec =

@@ -2,7 +2,7 @@ use native.Mathlib.Omega.{arith}
 use mathlib.Core.Path.{sym, subst, ◌∙◌}
 use Rattle.records.specs.Format.{Laid}
 use Rattle.records.specs.declared.tables.Tables.{Tables}
-use Rattle.travel.specs.Digest.{laid-some, sound-few, steady-lasts}
+use Rattle.travel.specs.Digest.{laid_some, sound_few, steady_lasts}
 use Rattle.travel.proofs.edge.road_lasts.Statement.{statement}
 use Rattle.travel.proofs.edge.road_lasts.Tie as tie
 
@@ -10,19 +10,19 @@ steady-at-requires : tie.Need-steady-at-requires
 steady-at-requires c κs =
     let s = c.before.before in
     let D = s.requires.1.1.0 in
-    omega (arith, D.room, s.requires.1.0.roads-few, s.requires.1.1.1)
+    omega (arith, D.room, s.requires.1.0.roads_few, s.requires.1.1.1)
 
 returns : tie.Need-returns
 returns c =
     let s = c.before.before.before.before in
     let D = s.requires.1.1.0 in
     let k = s.args.k in
-    steady-lasts s.requires.1.0 k s.args.x _ s.requires.1.1.1 (c.before.steady-at.ensures ∙ D.roads k s.requires.1.1.1) c.if1.true
+    steady_lasts s.requires.1.0 k s.args.x _ s.requires.1.1.1 (c.before.steady-at.ensures ∙ D.roads k s.requires.1.1.1) c.if1.true
 
 tables-in-requires : tie.Need-tables-in-requires
 tables-in-requires c κs =
     let s = c.before.before.before.before in
-    (laid-some s.requires.0, sound-few s.requires.1.0)
+    (laid_some s.requires.0, sound_few s.requires.1.0)
 
 road-duration-requires : tie.Need-road-duration-requires
 road-duration-requires c κs =

@@ -2,11 +2,11 @@ use Prim.Native.Nat.{ℕ, ◌%◌, ◌<◌}
 use native.Mathlib.Omega.{arith}
 use native.Mathlib.Nat.{le_refl}
 use borrow.Author.Rules.{rules}
-use Rattle.records.specs.Format.{volumeOf}
+use Rattle.records.specs.Format.{volume_of}
 use Rattle.travel.specs.Network.{piece_at}
-use Rattle.travel.specs.Halves.{road-there, halves}
-use Rattle.travel.specs.PieceWords.{force-held, force-read}
-use Rattle.travel.specs.Unfolds.{InForce, road-unfolds, halves-unfold, few-roads}
+use Rattle.travel.specs.Halves.{road_there, halves}
+use Rattle.travel.specs.PieceWords.{force_held, force_read}
+use Rattle.travel.specs.Unfolds.{InForce, road_unfolds, halves_unfold, few_roads}
 use borrow.Fn.Kinds.{In}
 use borrow.Fn.PlainCycle.{Measures, is, falls, and}
 use Rattle.travel.proofs.path.count_roads.Reads as count-roads
@@ -42,13 +42,13 @@ calls t = (
 )
 
 -- the piece in force, once its left and right are read
-in-force : (t : ℕ) (c : count-roads-lts.After-content2 (calls t) (count-roads-at t) count-roads.Post)
-    → InForce (volumeOf c.before.before.before.before.args.v.now) c.before.before.before.before.args.e c.before.before.before.before.args.x
-    (piece_at (volumeOf c.before.before.before.before.args.v.now) c.before.before.before.before.args.e (c.before.before.before.before.args.x % (volumeOf c.before.before.before.before.args.v.now).period))
+in_force : (t : ℕ) (c : count-roads-lts.After-content2 (calls t) (count-roads-at t) count-roads.Post)
+    → InForce (volume_of c.before.before.before.before.args.v.now) c.before.before.before.before.args.e c.before.before.before.before.args.x
+    (piece_at (volume_of c.before.before.before.before.args.v.now) c.before.before.before.before.args.e (c.before.before.before.before.args.x % (volume_of c.before.before.before.before.args.v.now).period))
     c.before.content.result c.content2.result
-in-force t c =
+in_force t c =
     let s = c.before.before.before.before in
-    force-read s.requires.1.0 s.requires.1.1.0 s.args.e s.args.x _ s.requires.1.1.1 c.before.before.word_of.ensures _ _ c.before.content.ensures c.content2.ensures
+    force_read s.requires.1.0 s.requires.1.1.0 s.args.e s.args.x _ s.requires.1.1.1 c.before.before.word_of.ensures _ _ c.before.content.ensures c.content2.ensures
 
 count-roads-word-of-requires : (t : ℕ) → count-roads-lts.Need-word-of-requires (calls t) (count-roads-at t) count-roads.Post
 count-roads-word-of-requires t c κs =
@@ -58,12 +58,12 @@ count-roads-word-of-requires t c κs =
 count-roads-add-content : (t : ℕ) → count-roads-lts.Need-overflow-add-content (calls t) (count-roads-at t) count-roads.Post
 count-roads-add-content t c =
     let s = c.before.before in
-    omega (arith, force-held s.requires.1.0 s.requires.1.1.0 s.args.e s.args.x _ s.requires.1.1.1 c.word_of.ensures 1 (omega arith))
+    omega (arith, force_held s.requires.1.0 s.requires.1.1.0 s.args.e s.args.x _ s.requires.1.1.1 c.word_of.ensures 1 (omega arith))
 
 count-roads-content-requires : (t : ℕ) → count-roads-lts.Need-content-requires (calls t) (count-roads-at t) count-roads.Post
 count-roads-content-requires t c κs =
     let s = c.before.before in
-    force-held s.requires.1.0 s.requires.1.1.0 s.args.e s.args.x _ s.requires.1.1.1 c.word_of.ensures 1 (omega arith)
+    force_held s.requires.1.0 s.requires.1.1.0 s.args.e s.args.x _ s.requires.1.1.1 c.word_of.ensures 1 (omega arith)
 
 count-roads-cast-left : (t : ℕ) → count-roads-lts.Need-overflow-cast-left (calls t) (count-roads-at t) count-roads.Post
 count-roads-cast-left t c = search rules
@@ -71,12 +71,12 @@ count-roads-cast-left t c = search rules
 count-roads-add-content-2 : (t : ℕ) → count-roads-lts.Need-overflow-add-content-2 (calls t) (count-roads-at t) count-roads.Post
 count-roads-add-content-2 t c =
     let s = c.before.before.before in
-    omega (arith, force-held s.requires.1.0 s.requires.1.1.0 s.args.e s.args.x _ s.requires.1.1.1 c.before.word_of.ensures 2 (omega arith))
+    omega (arith, force_held s.requires.1.0 s.requires.1.1.0 s.args.e s.args.x _ s.requires.1.1.1 c.before.word_of.ensures 2 (omega arith))
 
 count-roads-content-requires-2 : (t : ℕ) → count-roads-lts.Need-content-requires-2 (calls t) (count-roads-at t) count-roads.Post
 count-roads-content-requires-2 t c κs =
     let s = c.before.before.before in
-    force-held s.requires.1.0 s.requires.1.1.0 s.args.e s.args.x _ s.requires.1.1.1 c.before.word_of.ensures 2 (omega arith)
+    force_held s.requires.1.0 s.requires.1.1.0 s.args.e s.args.x _ s.requires.1.1.1 c.before.word_of.ensures 2 (omega arith)
 
 count-roads-cast-right : (t : ℕ) → count-roads-lts.Need-overflow-cast-right (calls t) (count-roads-at t) count-roads.Post
 count-roads-cast-right t c = search rules
@@ -84,18 +84,18 @@ count-roads-cast-right t c = search rules
 count-roads-road-duration-requires : (t : ℕ) → count-roads-lts.Need-road-duration-requires (calls t) (count-roads-at t) count-roads.Post
 count-roads-road-duration-requires t c κs =
     let s = c.before.before.before.before.before in
-    (s.requires.1.0, (s.requires.1.1.0, road-there (in-force t c.before).hand c.if1.true))
+    (s.requires.1.0, (s.requires.1.1.0, road_there (in_force t c.before).hand c.if1.true))
 
 count-roads-returns : (t : ℕ) → count-roads-lts.Need-returns (calls t) (count-roads-at t) count-roads.Post
 count-roads-returns t c =
     let d = c.before in
     let s = d.before.before.before.before.before in
-    road-unfolds (in-force t d.before) d.if1.true _ c.road-duration.ensures
+    road_unfolds (in_force t d.before) d.if1.true _ c.road-duration.ensures
 
 count-roads-count-roads-requires : (t : ℕ) → count-roads-lts.Need-count-roads-requires (calls t) (count-roads-at t) count-roads.Post
 count-roads-count-roads-requires t c κs =
     let s = c.before.before.before.before.before in
-    let H = halves (in-force t c.before).hand c.if1.false in
+    let H = halves (in_force t c.before).hand c.if1.false in
     let m : c.before.before.content.result < t = omega (arith, s.requires.0, H.left_below) in
     (m, (s.requires.1.0, (s.requires.1.1.0, H.left)))
 
@@ -103,15 +103,15 @@ count-roads-add-count-roads : (t : ℕ) → count-roads-lts.Need-overflow-add-co
 count-roads-add-count-roads t c =
     let d = c.before.before in
     let s = d.before.before.before.before.before in
-    let H = halves (in-force t d.before).hand d.if1.false in
+    let H = halves (in_force t d.before).hand d.if1.false in
     omega (arith, c.before.count-roads.ensures.duration, (H.right _ (le_refl _)).fits)
 
 count-roads-count-roads-requires-2 : (t : ℕ) → count-roads-lts.Need-count-roads-requires-2 (calls t) (count-roads-at t) count-roads.Post
 count-roads-count-roads-requires-2 t c κs =
     let d = c.before.before in
     let s = d.before.before.before.before.before in
-    let H = halves (in-force t d.before).hand d.if1.false in
-    let m : d.before.content2.result < t = omega (arith, s.requires.0, H.right-below) in
+    let H = halves (in_force t d.before).hand d.if1.false in
+    let m : d.before.content2.result < t = omega (arith, s.requires.0, H.right_below) in
     (m, (s.requires.1.0, (s.requires.1.1.0, H.right _ (omega (arith, c.before.count-roads.ensures.duration)))))
 
 count-roads-add-roads : (t : ℕ) → count-roads-lts.Need-overflow-add-roads (calls t) (count-roads-at t) count-roads.Post
@@ -120,8 +120,8 @@ count-roads-add-roads t c =
     let s = d.before.before.before.before.before in
     let a = c.before.before.before.before.count-roads in
     let b = c.before.before.count-roads2 in
-    let u = halves-unfold (in-force t d.before) d.if1.false _ a.ensures _ b.ensures in
-    omega (arith, few-roads _ s.requires.1.1.0 s.args.e s.args.x _ s.requires.1.1.1.there u)
+    let u = halves_unfold (in_force t d.before) d.if1.false _ a.ensures _ b.ensures in
+    omega (arith, few_roads _ s.requires.1.1.0 s.args.e s.args.x _ s.requires.1.1.1.there u)
 
 count-roads-add-duration : (t : ℕ) → count-roads-lts.Need-overflow-add-duration (calls t) (count-roads-at t) count-roads.Post
 count-roads-add-duration t c =
@@ -129,7 +129,7 @@ count-roads-add-duration t c =
     let s = d.before.before.before.before.before in
     let a = c.before.before.before.before.before.before.count-roads in
     let b = c.before.before.before.before.count-roads2 in
-    let H = halves (in-force t d.before).hand d.if1.false in
+    let H = halves (in_force t d.before).hand d.if1.false in
     omega (arith, H.sum _ _ _ a.ensures.duration b.ensures.duration)
 
 count-roads-returns-2 : (t : ℕ) → count-roads-lts.Need-returns-2 (calls t) (count-roads-at t) count-roads.Post
@@ -138,7 +138,7 @@ count-roads-returns-2 t c =
     let s = d.before.before.before.before.before in
     let a = c.before.before.before.before.before.before.count-roads in
     let b = c.before.before.before.before.count-roads2 in
-    halves-unfold (in-force t d.before) d.if1.false _ a.ensures _ b.ensures
+    halves_unfold (in_force t d.before) d.if1.false _ a.ensures _ b.ensures
 
 pub +count-roads-spec : {M : Type 1} → statement M
 +count-roads-spec = close μ-count-roads λ t. count-roads-lts.spec (calls t) (count-roads-at t)

@@ -5,12 +5,12 @@ use lib.ListN.{length}
 use native.Mathlib.Omega.{arith}
 use native.Mathlib.Nat.{le_refl}
 use borrow.Author.Rules.{rules}
-use Rattle.records.specs.Format.{volumeOf}
-use Rattle.travel.specs.Network.{piece_at, roadsOf}
-use Rattle.travel.specs.Halves.{road-there, halves}
-use Rattle.travel.specs.PieceWords.{force-held, force-read}
-use Rattle.travel.specs.Unfolds.{InForce, one-road, road-unfolds, left-among, roads-halves, halves-unfold, few-roads}
-use Rattle.travel.specs.Written.{withRoads, one_written, count-in, room_after, two-written}
+use Rattle.records.specs.Format.{volume_of}
+use Rattle.travel.specs.Network.{piece_at, roads_of}
+use Rattle.travel.specs.Halves.{road_there, halves}
+use Rattle.travel.specs.PieceWords.{force_held, force_read}
+use Rattle.travel.specs.Unfolds.{InForce, one_road, road_unfolds, left_among, roads_halves, halves_unfold, few_roads}
+use Rattle.travel.specs.Written.{with_roads, one_written, count_in, room_after, two_written}
 use borrow.Fn.Kinds.{In}
 use borrow.Fn.PlainCycle.{Measures, is, falls, and}
 use Rattle.travel.proofs.path.unfold_edge.Reads as unfold-edge
@@ -46,13 +46,13 @@ calls t = (
 )
 
 -- the piece in force, once its left and right are read
-in-force : (t : ℕ) (c : unfold-edge-lts.After-content2 (calls t) (unfold-edge-at t) unfold-edge.Post)
-    → InForce (volumeOf c.before.before.before.before.before.args.v.now) c.before.before.before.before.before.args.e c.before.before.before.before.before.args.x
-    (piece_at (volumeOf c.before.before.before.before.before.args.v.now) c.before.before.before.before.before.args.e (c.before.before.before.before.before.args.x % (volumeOf c.before.before.before.before.before.args.v.now).period))
+in_force : (t : ℕ) (c : unfold-edge-lts.After-content2 (calls t) (unfold-edge-at t) unfold-edge.Post)
+    → InForce (volume_of c.before.before.before.before.before.args.v.now) c.before.before.before.before.before.args.e c.before.before.before.before.before.args.x
+    (piece_at (volume_of c.before.before.before.before.before.args.v.now) c.before.before.before.before.before.args.e (c.before.before.before.before.before.args.x % (volume_of c.before.before.before.before.before.args.v.now).period))
     c.before.content.result c.content2.result
-in-force t c =
+in_force t c =
     let s = c.before.before.before.before.before in
-    force-read s.requires.1.0 s.requires.1.1.0 s.args.e s.args.x _ s.requires.1.1.1.0 c.before.before.word_of.ensures _ _ c.before.content.ensures c.content2.ensures
+    force_read s.requires.1.0 s.requires.1.1.0 s.args.e s.args.x _ s.requires.1.1.1.0 c.before.before.word_of.ensures _ _ c.before.content.ensures c.content2.ensures
 
 unfold-edge-word-of-requires : (t : ℕ) → unfold-edge-lts.Need-word-of-requires (calls t) (unfold-edge-at t) unfold-edge.Post
 unfold-edge-word-of-requires t c κs =
@@ -62,12 +62,12 @@ unfold-edge-word-of-requires t c κs =
 unfold-edge-add-content : (t : ℕ) → unfold-edge-lts.Need-overflow-add-content (calls t) (unfold-edge-at t) unfold-edge.Post
 unfold-edge-add-content t c =
     let s = c.before.before.before in
-    omega (arith, force-held s.requires.1.0 s.requires.1.1.0 s.args.e s.args.x _ s.requires.1.1.1.0 c.word_of.ensures 1 (omega arith))
+    omega (arith, force_held s.requires.1.0 s.requires.1.1.0 s.args.e s.args.x _ s.requires.1.1.1.0 c.word_of.ensures 1 (omega arith))
 
 unfold-edge-content-requires : (t : ℕ) → unfold-edge-lts.Need-content-requires (calls t) (unfold-edge-at t) unfold-edge.Post
 unfold-edge-content-requires t c κs =
     let s = c.before.before.before in
-    force-held s.requires.1.0 s.requires.1.1.0 s.args.e s.args.x _ s.requires.1.1.1.0 c.word_of.ensures 1 (omega arith)
+    force_held s.requires.1.0 s.requires.1.1.0 s.args.e s.args.x _ s.requires.1.1.1.0 c.word_of.ensures 1 (omega arith)
 
 unfold-edge-cast-left : (t : ℕ) → unfold-edge-lts.Need-overflow-cast-left (calls t) (unfold-edge-at t) unfold-edge.Post
 unfold-edge-cast-left t c = search rules
@@ -75,12 +75,12 @@ unfold-edge-cast-left t c = search rules
 unfold-edge-add-content-2 : (t : ℕ) → unfold-edge-lts.Need-overflow-add-content-2 (calls t) (unfold-edge-at t) unfold-edge.Post
 unfold-edge-add-content-2 t c =
     let s = c.before.before.before.before in
-    omega (arith, force-held s.requires.1.0 s.requires.1.1.0 s.args.e s.args.x _ s.requires.1.1.1.0 c.before.word_of.ensures 2 (omega arith))
+    omega (arith, force_held s.requires.1.0 s.requires.1.1.0 s.args.e s.args.x _ s.requires.1.1.1.0 c.before.word_of.ensures 2 (omega arith))
 
 unfold-edge-content-requires-2 : (t : ℕ) → unfold-edge-lts.Need-content-requires-2 (calls t) (unfold-edge-at t) unfold-edge.Post
 unfold-edge-content-requires-2 t c κs =
     let s = c.before.before.before.before in
-    force-held s.requires.1.0 s.requires.1.1.0 s.args.e s.args.x _ s.requires.1.1.1.0 c.before.word_of.ensures 2 (omega arith)
+    force_held s.requires.1.0 s.requires.1.1.0 s.args.e s.args.x _ s.requires.1.1.1.0 c.before.word_of.ensures 2 (omega arith)
 
 unfold-edge-cast-right : (t : ℕ) → unfold-edge-lts.Need-overflow-cast-right (calls t) (unfold-edge-at t) unfold-edge.Post
 unfold-edge-cast-right t c = search rules
@@ -91,13 +91,13 @@ unfold-edge-cast-path t c = search rules
 unfold-edge-slice-write-path : (t : ℕ) → unfold-edge-lts.Need-slice-write-path (calls t) (unfold-edge-at t) unfold-edge.Post
 unfold-edge-slice-write-path t c =
     let s = c.before.before.before.before.before.before in
-    let k = ap length (one-road (in-force t c.before) c.if1.true) in
+    let k = ap length (one_road (in_force t c.before) c.if1.true) in
     omega (arith, s.requires.1.1.1.1)
 
 unfold-edge-road-duration-requires : (t : ℕ) → unfold-edge-lts.Need-road-duration-requires (calls t) (unfold-edge-at t) unfold-edge.Post
 unfold-edge-road-duration-requires t c κs =
     let s = c.before.before.before.before.before.before in
-    (s.requires.1.0, (s.requires.1.1.0, road-there (in-force t c.before).hand c.if1.true))
+    (s.requires.1.0, (s.requires.1.1.0, road_there (in_force t c.before).hand c.if1.true))
 
 unfold-edge-same-length : (t : ℕ) → unfold-edge-lts.Need-same-length (calls t) (unfold-edge-at t) unfold-edge.Post
 unfold-edge-same-length t c = search rules
@@ -106,44 +106,44 @@ unfold-edge-returns : (t : ℕ) → unfold-edge-lts.Need-returns (calls t) (unfo
 unfold-edge-returns t c =
     let d = c.before in
     let s = d.before.before.before.before.before.before in
-    let one = one-road (in-force t d.before) d.if1.true in
+    let one = one_road (in_force t d.before) d.if1.true in
     let k = ap length one in
     let h : 0 < length s.args.path.now = omega (arith, s.requires.1.1.1.1) in (
-      road-unfolds (in-force t d.before) d.if1.true _ c.road-duration.ensures,
-      one_written s.args.path.now _ h ∙ ap (λ (ks : List ℕ). withRoads ks s.args.path.now) (sym one),
+      road_unfolds (in_force t d.before) d.if1.true _ c.road-duration.ensures,
+      one_written s.args.path.now _ h ∙ ap (λ (ks : List ℕ). with_roads ks s.args.path.now) (sym one),
     )
 
 unfold-edge-unfold-edge-requires : (t : ℕ) → unfold-edge-lts.Need-unfold-edge-requires (calls t) (unfold-edge-at t) unfold-edge.Post
 unfold-edge-unfold-edge-requires t c κs =
     let d = c.before in
     let s = d.before.before.before.before.before.before in
-    let H = halves (in-force t d.before).hand d.if1.false in
+    let H = halves (in_force t d.before).hand d.if1.false in
     let m : d.before.before.content.result < t = omega (arith, s.requires.0, H.left_below) in
-    let room = left-among (in-force t d.before) d.if1.false in
+    let room = left_among (in_force t d.before) d.if1.false in
     (m, (s.requires.1.0, (s.requires.1.1.0, (H.left, omega (arith, s.requires.1.1.1.1)))))
 
 unfold-edge-add-unfold-edge : (t : ℕ) → unfold-edge-lts.Need-overflow-add-unfold-edge (calls t) (unfold-edge-at t) unfold-edge.Post
 unfold-edge-add-unfold-edge t c =
     let d = c.before.before.before.before.before in
     let s = d.before.before.before.before.before.before in
-    let H = halves (in-force t d.before).hand d.if1.false in
+    let H = halves (in_force t d.before).hand d.if1.false in
     omega (arith, c.before.before.before.unfold-edge.ensures.0.duration, (H.right _ (le_refl _)).fits)
 
 unfold-edge-mul-unfold-edge : (t : ℕ) → unfold-edge-lts.Need-overflow-mul-unfold-edge (calls t) (unfold-edge-at t) unfold-edge.Post
 unfold-edge-mul-unfold-edge t c =
     let d = c.before.before.before.before.before in
     let s = d.before.before.before.before.before.before in
-    let H = halves (in-force t d.before).hand d.if1.false in
+    let H = halves (in_force t d.before).hand d.if1.false in
     let a = c.before.before.before.unfold-edge in
-    omega (arith, few-roads _ s.requires.1.1.0 d.before.before.content.result s.args.x _ H.left.there a.ensures.0)
+    omega (arith, few_roads _ s.requires.1.1.0 d.before.before.content.result s.args.x _ H.left.there a.ensures.0)
 
 unfold-edge-sub-unfold-edge : (t : ℕ) → unfold-edge-lts.Need-overflow-sub-unfold-edge (calls t) (unfold-edge-at t) unfold-edge.Post
 unfold-edge-sub-unfold-edge t c =
     let d = c.before.before.before.before.before in
     let s = d.before.before.before.before.before.before in
     let a = c.before.before.before.unfold-edge in
-    let ks = roadsOf (volumeOf s.args.v.now) d.before.before.content.result s.args.x in
-    let n = count-in ks [] s.args.path.now _ a.result.roads a.ensures.0.roads a.ensures.1 in
+    let ks = roads_of (volume_of s.args.v.now) d.before.before.content.result s.args.x in
+    let n = count_in ks [] s.args.path.now _ a.result.roads a.ensures.0.roads a.ensures.1 in
     omega arith
 
 unfold-edge-part-unfold-edge-start : (t : ℕ) → unfold-edge-lts.Need-slice-bounds-unfold-edge-start (calls t) (unfold-edge-at t) unfold-edge.Post
@@ -151,8 +151,8 @@ unfold-edge-part-unfold-edge-start t c =
     let d = c.before.before.before.before.before in
     let s = d.before.before.before.before.before.before in
     let a = c.before.before.before.unfold-edge in
-    let ks = roadsOf (volumeOf s.args.v.now) d.before.before.content.result s.args.x in
-    let n = count-in ks [] s.args.path.now _ a.result.roads a.ensures.0.roads a.ensures.1 in
+    let ks = roads_of (volume_of s.args.v.now) d.before.before.content.result s.args.x in
+    let n = count_in ks [] s.args.path.now _ a.result.roads a.ensures.0.roads a.ensures.1 in
     omega arith
 
 unfold-edge-part-unfold-edge-end : (t : ℕ) → unfold-edge-lts.Need-slice-bounds-unfold-edge-end (calls t) (unfold-edge-at t) unfold-edge.Post
@@ -163,11 +163,11 @@ unfold-edge-unfold-edge-requires-2 t c κs =
     let d = c.before.before.before.before.before.before in
     let s = d.before.before.before.before.before.before in
     let a = c.before.before.before.before.unfold-edge in
-    let H = halves (in-force t d.before).hand d.if1.false in
-    let m : d.before.content2.result < t = omega (arith, s.requires.0, H.right-below) in
-    let both = ap length (roads-halves (in-force t d.before) d.if1.false _ a.ensures.0) in
-    let ks = roadsOf (volumeOf s.args.v.now) d.before.before.content.result s.args.x in
-    let js = roadsOf (volumeOf s.args.v.now) d.before.content2.result (s.args.x + a.result.duration) in
+    let H = halves (in_force t d.before).hand d.if1.false in
+    let m : d.before.content2.result < t = omega (arith, s.requires.0, H.right_below) in
+    let both = ap length (roads_halves (in_force t d.before) d.if1.false _ a.ensures.0) in
+    let ks = roads_of (volume_of s.args.v.now) d.before.before.content.result s.args.x in
+    let js = roads_of (volume_of s.args.v.now) d.before.content2.result (s.args.x + a.result.duration) in
     let room =
     room_after ks js s.args.path.now _ a.result.roads a.ensures.0.roads a.ensures.1 (omega (arith, s.requires.1.1.1.1))
     in
@@ -179,8 +179,8 @@ unfold-edge-add-roads t c =
     let s = d.before.before.before.before.before.before in
     let a = c.before.before.before.before.before.before.before.before.unfold-edge in
     let b = c.before.before.before.unfold-edge2 in
-    let u = halves-unfold (in-force t d.before) d.if1.false _ a.ensures.0 _ b.ensures.0 in
-    omega (arith, few-roads _ s.requires.1.1.0 s.args.e s.args.x _ s.requires.1.1.1.0.there u)
+    let u = halves_unfold (in_force t d.before) d.if1.false _ a.ensures.0 _ b.ensures.0 in
+    omega (arith, few_roads _ s.requires.1.1.0 s.args.e s.args.x _ s.requires.1.1.1.0.there u)
 
 unfold-edge-add-duration : (t : ℕ) → unfold-edge-lts.Need-overflow-add-duration (calls t) (unfold-edge-at t) unfold-edge.Post
 unfold-edge-add-duration t c =
@@ -188,7 +188,7 @@ unfold-edge-add-duration t c =
     let s = d.before.before.before.before.before.before in
     let a = c.before.before.before.before.before.before.before.before.before.before.unfold-edge in
     let b = c.before.before.before.before.before.unfold-edge2 in
-    let H = halves (in-force t d.before).hand d.if1.false in
+    let H = halves (in_force t d.before).hand d.if1.false in
     omega (arith, H.sum _ _ _ a.ensures.0.duration b.ensures.0.duration)
 
 unfold-edge-same-length-2 : (t : ℕ) → unfold-edge-lts.Need-same-length-2 (calls t) (unfold-edge-at t) unfold-edge.Post
@@ -200,12 +200,12 @@ unfold-edge-returns-2 t c =
     let s = d.before.before.before.before.before.before in
     let a = c.before.before.before.before.before.before.before.before.before.before.unfold-edge in
     let b = c.before.before.before.before.before.unfold-edge2 in
-    let ks = roadsOf (volumeOf s.args.v.now) d.before.before.content.result s.args.x in
-    let js = roadsOf (volumeOf s.args.v.now) d.before.content2.result (s.args.x + a.result.duration) in
-    let both = roads-halves (in-force t d.before) d.if1.false _ a.ensures.0 in (
-      halves-unfold (in-force t d.before) d.if1.false _ a.ensures.0 _ b.ensures.0,
-      two-written ks js s.args.path.now _ a.result.roads a.ensures.0.roads a.ensures.1 _ b.ensures.1
-          ∙ ap (λ (l : List ℕ). withRoads l s.args.path.now) (sym both),
+    let ks = roads_of (volume_of s.args.v.now) d.before.before.content.result s.args.x in
+    let js = roads_of (volume_of s.args.v.now) d.before.content2.result (s.args.x + a.result.duration) in
+    let both = roads_halves (in_force t d.before) d.if1.false _ a.ensures.0 in (
+      halves_unfold (in_force t d.before) d.if1.false _ a.ensures.0 _ b.ensures.0,
+      two_written ks js s.args.path.now _ a.result.roads a.ensures.0.roads a.ensures.1 _ b.ensures.1
+          ∙ ap (λ (l : List ℕ). with_roads l s.args.path.now) (sym both),
     )
 
 pub +unfold-edge-spec : {M : Type 1} → statement M

@@ -32,8 +32,8 @@ word-in-force-requires c κs =
         (
           s.requires.1.1,
           record {
-            begin = omega (arith, L.pieces, c.before.edge-first.ensures.0);
-            end_is = omega (arith, L.pieces, c.before.edge-first.ensures.0, c.edge-pieces.ensures.0);
+            begin = omega (arith, L.pieces, c.before.edge_first.ensures.0);
+            end_is = omega (arith, L.pieces, c.before.edge_first.ensures.0, c.edge_pieces.ensures.0);
           },
         ),
       ),

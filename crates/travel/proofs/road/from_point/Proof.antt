@@ -1,8 +1,8 @@
 use Prim.Native.Nat.{◌+◌}
 use mathlib.Core.Path.{sym, ap₂}
 use native.Mathlib.Omega.{arith}
-use Rattle.records.specs.Format.{period-is}
-use Rattle.travel.specs.PointsFrom.{next-ends, next-is, over-ends, over-is}
+use Rattle.records.specs.Format.{period_is}
+use Rattle.travel.specs.PointsFrom.{next_ends, next_is, over_ends, over_is}
 use borrow.Author.Rules.{rules}
 use Rattle.travel.proofs.road.from_point.Statement.{statement}
 use Rattle.travel.proofs.road.from_point.Tie as tie
@@ -31,7 +31,7 @@ line-requires c κs =
     let s = d.before.before in
     let p = d.point_at.ensures in
     let q = c.point-at2.ensures in (
-      next-ends _ s.args.first s.args.n s.args.i s.args.x _ _ _ _ s.requires.1.0 s.requires.1.1 p.second p.duration
+      next_ends _ s.args.first s.args.n s.args.i s.args.x _ _ _ _ s.requires.1.0 s.requires.1.1 p.second p.duration
           c.before.if1.true q.second q.duration,
       omega (arith, q.second_fits),
     )
@@ -42,7 +42,7 @@ returns c =
     let s = d.before.before in
     let p = d.point_at.ensures in
     let q = c.before.point-at2.ensures in
-    next-is _ s.args.first s.args.n s.args.i s.args.x _ _ _ _ s.requires.1.0 s.requires.1.1 p.second p.duration
+    next_is _ s.args.first s.args.n s.args.i s.args.x _ _ _ _ s.requires.1.0 s.requires.1.1 p.second p.duration
     c.before.before.if1.true q.second q.duration _ c.line.ensures
 
 point-at-requires-3 : tie.Need-point-at-requires-3
@@ -57,8 +57,8 @@ line-requires-2 c κs =
     let s = d.before.before in
     let p = d.point_at.ensures in
     let q = c.before.point-at3.ensures in (
-      over-ends _ s.args.first s.args.n s.args.i s.args.x _ _ _ _ s.requires.1.0 s.requires.1.1 p.second p.duration
-          c.before.before.if1.false (ap₂ ◌+◌ q.second (sym (period-is s.args.v.now))) q.duration,
+      over_ends _ s.args.first s.args.n s.args.i s.args.x _ _ _ _ s.requires.1.0 s.requires.1.1 p.second p.duration
+          c.before.before.if1.false (ap₂ ◌+◌ q.second (sym (period_is s.args.v.now))) q.duration,
       omega (arith, q.second_fits),
     )
 
@@ -68,8 +68,8 @@ returns-2 c =
     let s = d.before.before in
     let p = d.point_at.ensures in
     let q = c.before.before.point-at3.ensures in
-    over-is _ s.args.first s.args.n s.args.i s.args.x _ _ _ _ s.requires.1.0 s.requires.1.1 p.second p.duration
-    c.before.before.before.if1.false (ap₂ ◌+◌ q.second (sym (period-is s.args.v.now))) q.duration _ c.line2.ensures
+    over_is _ s.args.first s.args.n s.args.i s.args.x _ _ _ _ s.requires.1.0 s.requires.1.1 p.second p.duration
+    c.before.before.before.if1.false (ap₂ ◌+◌ q.second (sym (period_is s.args.v.now))) q.duration _ c.line2.ensures
 
 pub from-point-spec : {M : Type 1} → statement M
 from-point-spec =

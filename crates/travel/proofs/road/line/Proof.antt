@@ -14,7 +14,7 @@ sub-result c = search rules
 mul-result : tie.Need-overflow-mul-result
 mul-result c =
     let a = c.args in
-    omega (arith, mul-le-mul {n₁ = a.f0} {m₁ = a.t1 - a.x} {n₂ = longest} {m₂ = 2 ^ 34} c.requires.0.from-short (omega arith))
+    omega (arith, mul-le-mul {n₁ = a.f0} {m₁ = a.t1 - a.x} {n₂ = longest} {m₂ = 2 ^ 34} c.requires.0.from_short (omega arith))
 
 sub-result-2 : tie.Need-overflow-sub-result-2
 sub-result-2 c = search rules
@@ -22,15 +22,15 @@ sub-result-2 c = search rules
 mul-result-2 : tie.Need-overflow-mul-result-2
 mul-result-2 c =
     let a = c.args in
-    omega (arith, mul-le-mul {n₁ = a.f1} {m₁ = a.x - a.t0} {n₂ = longest} {m₂ = 2 ^ 34} c.requires.0.to-short (omega arith))
+    omega (arith, mul-le-mul {n₁ = a.f1} {m₁ = a.x - a.t0} {n₂ = longest} {m₂ = 2 ^ 34} c.requires.0.to_short (omega arith))
 
 add-result : tie.Need-overflow-add-result
 add-result c =
     let a = c.args in
     omega (
       arith,
-      mul-le-mul {n₁ = a.f0} {m₁ = a.t1 - a.x} {n₂ = longest} {m₂ = 2 ^ 34} c.requires.0.from-short (omega arith),
-      mul-le-mul {n₁ = a.f1} {m₁ = a.x - a.t0} {n₂ = longest} {m₂ = 2 ^ 34} c.requires.0.to-short (omega arith),
+      mul-le-mul {n₁ = a.f0} {m₁ = a.t1 - a.x} {n₂ = longest} {m₂ = 2 ^ 34} c.requires.0.from_short (omega arith),
+      mul-le-mul {n₁ = a.f1} {m₁ = a.x - a.t0} {n₂ = longest} {m₂ = 2 ^ 34} c.requires.0.to_short (omega arith),
     )
 
 sub-result-3 : tie.Need-overflow-sub-result-3

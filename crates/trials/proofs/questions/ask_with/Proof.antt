@@ -1,5 +1,5 @@
 use borrow.Author.Rules.{rules}
-use Rattle.telling.specs.Room.{roads-fit}
+use Rattle.telling.specs.Room.{roads_fit}
 use Rattle.trials.proofs.questions.ask_with.Statement.{statement}
 use Rattle.trials.proofs.questions.ask_with.Tie as tie
 
@@ -7,7 +7,7 @@ search-requires : tie.Need-search-requires
 search-requires c κs = search rules
 
 asked-requires : tie.Need-asked-requires
-asked-requires c κs = roads-fit c.before.before.before.before.before.search.ensures
+asked-requires c κs = roads_fit c.before.before.before.before.before.search.ensures
 
 same_length : tie.Need-same-length
 same_length c = search rules

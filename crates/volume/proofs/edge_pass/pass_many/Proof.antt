@@ -1,6 +1,6 @@
 use lib.ListN.{length-replicate}
 use borrow.Author.Rules.{rules}
-use Rattle.volume.specs.Repeats.{stamped-none}
+use Rattle.volume.specs.Repeats.{stamped_none}
 use Rattle.volume.proofs.edge_pass.pass_many.Statement.{statement}
 use Rattle.volume.proofs.edge_pass.pass_many.Tie as tie
 
@@ -13,7 +13,7 @@ slice-aggregate-pass-within-2 c = search rules
 pass-within-requires : tie.Need-pass-within-requires
 pass-within-requires c κs =
     let s = c.before.before.before.before.before in
-    (s.requires.0, (s.requires.1.0, (s.requires.1.1.0, ((simp length-replicate s.requires.1.1.0.junctions, s.requires.1.1.1), stamped-none _ 1024 s.requires.1.1.0.junctions))))
+    (s.requires.0, (s.requires.1.0, (s.requires.1.1.0, ((simp length-replicate s.requires.1.1.0.junctions, s.requires.1.1.1), stamped_none _ 1024 s.requires.1.1.0.junctions))))
 
 same_length : tie.Need-same-length
 same_length c = search rules

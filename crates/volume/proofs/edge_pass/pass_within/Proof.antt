@@ -1,6 +1,6 @@
 use native.Mathlib.Omega.{arith}
-use Rattle.records.specs.Index.{indexed-linked}
-use Rattle.records.specs.Format.{volumeOf}
+use Rattle.records.specs.Index.{indexed_linked}
+use Rattle.records.specs.Format.{volume_of}
 use borrow.Author.Rules.{rules}
 use Rattle.volume.proofs.edge_pass.pass_within.Statement.{statement}
 use Rattle.volume.proofs.edge_pass.pass_within.Tie as tie
@@ -16,14 +16,14 @@ first-repeat-requires c κs =
     let s = i.before.before.before.before.before.before.before in
     let n = s.requires.1.0 in
     let room = s.requires.1.1.1.0 in
-    (s.requires.0, (n, (s.requires.1.1.0, (indexed-linked (volumeOf s.args.v.now) s.args.first.now _ _ _ (omega (arith, room.0, n.junctions)) (omega (arith, room.1, n.edges)) i.index-edges.ensures, s.requires.1.1.1.1))))
+    (s.requires.0, (n, (s.requires.1.1.0, (indexed_linked (volume_of s.args.v.now) s.args.first.now _ _ _ (omega (arith, room.0, n.junctions)) (omega (arith, room.1, n.edges)) i.index-edges.ensures, s.requires.1.1.1.1))))
 
 pass-keeping-requires : tie.Need-pass-keeping-requires
 pass-keeping-requires c κs =
     let r = c.before.before.before in
     let i = r.before.before.before.before.before.before.before.before in
     let s = i.before.before.before.before.before.before.before in
-    (s.requires.0, (s.requires.1.0, (s.requires.1.1.0, (r.first-repeat.ensures.0, omega (arith, s.requires.1.1.1.0.1, i.index-edges.ensures.nexts-length)))))
+    (s.requires.0, (s.requires.1.0, (s.requires.1.1.0, (r.first-repeat.ensures.0, omega (arith, s.requires.1.1.1.0.1, i.index-edges.ensures.nexts_length)))))
 
 same_length : tie.Need-same-length
 same_length c = search rules

@@ -3,14 +3,14 @@ use mathlib.Core.Path.{◌∙◌, ◌≡◌, refl, subst}
 use native.Mathlib.Omega.{arith}
 use lib.ListN.{length}
 use borrow.Author.Rules.{rules}
-use Rattle.volume.specs.Repeats.{Stamped, LeastBelow, least-none}
-use Rattle.records.specs.Format.{volumeOf}
+use Rattle.volume.specs.Repeats.{Stamped, LeastBelow, least_none}
+use Rattle.records.specs.Format.{volume_of}
 use Rattle.volume.proofs.repeats.first_repeat.Statement.{statement}
 use Rattle.volume.proofs.repeats.first_repeat.Tie as tie
 
 abbrev invariant-loop : tie.invariant-loop
 invariant-loop v t first next stamps₀ n least₀ u₀ stamps least u =
-    (u ≤ n) × LeastBelow (volumeOf v) u least × Stamped n u stamps × (length stamps ≡ length stamps₀)
+    (u ≤ n) × LeastBelow (volume_of v) u least × Stamped n u stamps × (length stamps ≡ length stamps₀)
 
 abbrev decreases-loop : tie.decreases-loop
 decreases-loop v t first next stamps₀ n least₀ u₀ stamps least u = n - u
@@ -18,7 +18,7 @@ decreases-loop v t first next stamps₀ n least₀ u₀ stamps least u = n - u
 loop-holds : tie.Need-loop-init invariant-loop decreases-loop
 loop-holds c =
     let s = c.before.before.before.before in
-    (search rules, least-none _ _ s.requires.1.0.edges, s.requires.1.1.1.1, refl)
+    (search rules, least_none _ _ s.requires.1.0.edges, s.requires.1.1.1.1, refl)
 
 repeat-from-requires : tie.Need-repeat-from-requires invariant-loop decreases-loop
 repeat-from-requires c κs =
@@ -46,9 +46,9 @@ returns : tie.Need-returns invariant-loop decreases-loop
 returns c =
     let l = c.before in
     let s = l.before.before.before.before.before in
-    let e : l.loop.u ≡ (volumeOf s.args.v.now).junctions = omega (arith, s.requires.1.0.junctions) in
+    let e : l.loop.u ≡ (volume_of s.args.v.now).junctions = omega (arith, s.requires.1.0.junctions) in
     let n : l.loop.u ≡ s.args.c.junctions = omega arith in (
-      subst (λ (u : ℕ). LeastBelow (volumeOf s.args.v.now) u l.loop.least) e l.loop.invariant.1,
+      subst (λ (u : ℕ). LeastBelow (volume_of s.args.v.now) u l.loop.least) e l.loop.invariant.1,
       subst (λ (u : ℕ). Stamped s.args.c.junctions u l.loop.stamps) n l.loop.invariant.2,
     )
 

@@ -3,14 +3,14 @@ use mathlib.Core.Path.{refl, ◌≡◌, sym, ◌∙◌}
 use native.Mathlib.Omega.{arith}
 use lib.ListN.{length}
 use borrow.Author.Rules.{rules}
-use Rattle.volume.specs.Repeats.{Walked, walk_first, walk_meets, walk-goes, walk-finds, walk_ends, stamps-after, stamps-found}
-use Rattle.records.specs.Index.{next_low, link-next}
-use Rattle.records.specs.Format.{volumeOf}
+use Rattle.volume.specs.Repeats.{Walked, walk_first, walk_meets, walk_goes, walk_finds, walk_ends, stamps_after, stamps_found}
+use Rattle.records.specs.Index.{next_low, link_next}
+use Rattle.records.specs.Format.{volume_of}
 use Rattle.volume.proofs.repeats.repeat_from.Statement.{statement}
 use Rattle.volume.proofs.repeats.repeat_from.Tie as tie
 
 abbrev invariant-loop : tie.invariant-loop
-invariant-loop v t n first next u stamps₀ least stamp e₀ stamps e = Walked (volumeOf v) n u e stamps × (length stamps ≡ length stamps₀)
+invariant-loop v t n first next u stamps₀ least stamp e₀ stamps e = Walked (volume_of v) n u e stamps × (length stamps ≡ length stamps₀)
 
 abbrev decreases-loop : tie.decreases-loop
 decreases-loop v t n first next u stamps₀ least stamp e₀ stamps e = least - e
@@ -34,7 +34,7 @@ loop-holds : tie.Need-loop-init invariant-loop decreases-loop
 loop-holds c =
     let s = c.before.before.before.before.before in
     let a = s.args in
-    (walk_first (volumeOf a.v.now) a.n a.u _ a.stamps.now (s.requires.1.0.firsts a.u (omega arith)) s.requires.1.1.1.0, refl)
+    (walk_first (volume_of a.v.now) a.n a.u _ a.stamps.now (s.requires.1.0.firsts a.u (omega arith)) s.requires.1.1.1.0, refl)
 
 edge-to-requires : tie.Need-edge-to-requires invariant-loop decreases-loop
 edge-to-requires c κs =
@@ -53,7 +53,7 @@ returns c =
     let l = c.before.before.before.before.before.before.before in
     let s = c.before.before.before.before.before.before.before.before.before.before.before.before.before in
     let a = s.args in
-    let vol = volumeOf a.v.now in
+    let vol = volume_of a.v.now in
     let L = s.requires.1.1.1.1 in
     let W = l.loop.invariant.0 in
     let stamped = c.before.before.before.stamp-on.ensures in
@@ -61,8 +61,8 @@ returns c =
     let lt : e < vol.edges = omega (arith, L.inside, c.before.before.before.before.before.before.loop-test.true) in
     let to = c.before.before.before.before.edge_to in
     let meets = walk_meets vol a.n a.u e l.loop.stamps W lt to.result to.ensures.0 (sym stamped.0 ∙ c.if1.true) in (
-      walk-finds vol a.n a.u a.least e l.loop.stamps (omega arith) L W (omega arith) meets,
-      stamps-found vol a.n a.u a.least e l.loop.stamps (omega arith) L W to.result c.before.before.before.stamp-on.new.0 stamped.1,
+      walk_finds vol a.n a.u a.least e l.loop.stamps (omega arith) L W (omega arith) meets,
+      stamps_found vol a.n a.u a.least e l.loop.stamps (omega arith) L W to.result c.before.before.before.stamp-on.new.0 stamped.1,
     )
 
 mul-e-2 : tie.Need-overflow-mul-e-2 invariant-loop decreases-loop
@@ -79,10 +79,10 @@ loop-less c =
     let l = c.before.before.before.before.before.before.before.before in
     let s = c.before.before.before.before.before.before.before.before.before.before.before.before.before.before in
     let a = s.args in
-    let vol = volumeOf a.v.now in
+    let vol = volume_of a.v.now in
     let e = l.loop.e in
     let lt : e < vol.edges = omega (arith, s.requires.1.1.1.1.inside, c.before.before.before.before.before.before.before.loop-test.true) in
-    let n = link-next vol _ _ a.u e s.requires.1.0 lt (l.loop.invariant.0.begins-there lt) (omega arith) in
+    let n = link_next vol _ _ a.u e s.requires.1.0 lt (l.loop.invariant.0.begins_there lt) (omega arith) in
     let low = next_low vol a.u (e + 1) (omega arith) in
     omega arith
 
@@ -91,13 +91,13 @@ loop-again c =
     let l = c.before.before.before.before.before.before.before.before in
     let s = c.before.before.before.before.before.before.before.before.before.before.before.before.before.before in
     let a = s.args in
-    let vol = volumeOf a.v.now in
+    let vol = volume_of a.v.now in
     let e = l.loop.e in
     let lt : e < vol.edges = omega (arith, s.requires.1.1.1.1.inside, c.before.before.before.before.before.before.before.loop-test.true) in
-    let n = link-next vol _ _ a.u e s.requires.1.0 lt (l.loop.invariant.0.begins-there lt) (omega arith) in
+    let n = link_next vol _ _ a.u e s.requires.1.0 lt (l.loop.invariant.0.begins_there lt) (omega arith) in
     let stamped = c.before.before.before.before.stamp-on in
     let to = c.before.before.before.before.before.edge_to in (
-      walk-goes vol a.n a.u e l.loop.stamps l.loop.invariant.0 lt to.result _ stamped.new.0 to.ensures.0 (sym stamped.ensures.0 ∙ c.before.if1.false) stamped.ensures.1 n,
+      walk_goes vol a.n a.u e l.loop.stamps l.loop.invariant.0 lt to.result _ stamped.new.0 to.ensures.0 (sym stamped.ensures.0 ∙ c.before.if1.false) stamped.ensures.1 n,
       let k = stamped.auto.0 in let h = l.loop.invariant.1 in omega arith,
     )
 
@@ -109,10 +109,10 @@ returns-2 c =
     let l = c.before in
     let s = c.before.before.before.before.before.before.before in
     let a = s.args in
-    let vol = volumeOf a.v.now in
+    let vol = volume_of a.v.now in
     let L = s.requires.1.1.1.1 in
     let W = l.loop.invariant.0 in
-    (walk_ends vol a.n a.u a.least l.loop.e l.loop.stamps (omega arith) L W (omega arith), stamps-after vol a.n a.u a.least l.loop.e l.loop.stamps (omega arith) L W)
+    (walk_ends vol a.n a.u a.least l.loop.e l.loop.stamps (omega arith) L W (omega arith), stamps_after vol a.n a.u a.least l.loop.e l.loop.stamps (omega arith) L W)
 
 pub repeat-from-spec : {M : Type 1} → statement M
 repeat-from-spec =

@@ -3,16 +3,16 @@ use lib.Seq.{set-get_or}
 use lib.ListN.{set}
 use borrow.Author.Tests.{le-ltb, lt-ltb, eq-eqb, ne_eqb}
 use borrow.Author.Rules.{rules}
-use Rattle.volume.specs.Repeats.{bears, stampedOn}
-use Rattle.block.specs.Choose.{both_yes, both-no, choose_yes, choose_no}
+use Rattle.volume.specs.Repeats.{bears, stamped_on}
+use Rattle.block.specs.Choose.{both_yes, both_no, choose_yes, choose_no}
 use Rattle.volume.proofs.repeats.stamp_on.Statement.{statement}
 use Rattle.volume.proofs.repeats.stamp_on.Tie as tie
 
 returns : tie.Need-returns
-unfolding bears stampedOn
+unfolding bears stamped_on
 returns c =
     let far = le-ltb _ _ c.if1.true in
-    (sym (both-no _ far), sym (choose_no _ _ far))
+    (sym (both_no _ far), sym (choose_no _ _ far))
 
 mul-if2 : tie.Need-overflow-mul-if2
 mul-if2 c = search rules
@@ -21,7 +21,7 @@ slice-read-if2 : tie.Need-slice-read-if2
 slice-read-if2 c = search rules
 
 returns-2 : tie.Need-returns-2
-unfolding bears stampedOn
+unfolding bears stamped_on
 returns-2 c =
     let a = c.before.before.before.args in
     let near = lt-ltb _ _ c.before.before.if1.false in (
@@ -39,7 +39,7 @@ same_length : tie.Need-same-length
 same_length c = search rules
 
 returns-3 : tie.Need-returns-3
-unfolding bears stampedOn
+unfolding bears stamped_on
 returns-3 c =
     let near = lt-ltb _ _ c.before.before.if1.false in
     (sym (both_yes _ near ∙ ne_eqb _ _ c.if2.false), sym (choose_yes _ _ near))
