@@ -1,6 +1,8 @@
 // Blocks: the words of a volume, the two sums of a block, sealing, and the first block whose sums
 // differ. Answers to document 01, "The volume", first paragraph. What the words mean is said in the
 // crate `records`.
+#![tactic(auto)]
+
 ghost use Rattle.std.specs.Prelude.{◌≡◌, ◌+◌, ◌*◌, ◌/◌, ◌%◌, ◌<◌, ◌≤◌, length};
 ghost use Rattle.block.specs.Word.{word_from, word_at, put_word, content_at, most_words, Holds};
 ghost use Rattle.block.specs.Sums.{Summed, Gained};
@@ -56,7 +58,7 @@ pub fn content(v: &[u8], w: usize) -> u32
     word_from(v, 4 * w + 8 * block_of(w))
 }
 
-#[derive(Drop)]
+#[derive(Clone, Copy)]
 pub struct Pair {
     pub first: u32,
     pub second: u32,
@@ -86,7 +88,7 @@ pub fn put_word(v: &mut [u8], i: usize, x: u32)
     v[at + 3] = (x / 16777216 % 256) as u8;
 }
 
-#[derive(Drop)]
+#[derive(Clone, Copy)]
 pub struct Sums {
     pub a: u32,
     pub b: u32,
@@ -163,7 +165,7 @@ pub fn is_whole(n: usize) -> bool
     false
 }
 
-#[derive(Drop)]
+#[derive(Clone, Copy)]
 pub enum Sealing {
     Sealed,
     Refused(u32, u64),

@@ -13,7 +13,7 @@ use travel::edge_time;
 const EMPTY: u32 = 4294967295;
 
 // The words at which the tables of points, edges and pieces start.
-#[derive(Drop)]
+#[derive(Clone, Copy)]
 struct Starts {
     points: usize,
     edges: usize,

@@ -1,5 +1,7 @@
 // The desk program of document 01: reads a question and a volume from standard input and writes one line with the answer. What the
 // answer is, is the crate `search`'s, and how it is written, `telling`'s.
+#![tactic(auto)]
+
 ghost use Rattle.std.specs.Prelude.{◌≤◌, length};
 
 use block::word;

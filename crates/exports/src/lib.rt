@@ -1,5 +1,7 @@
 // The C names, for hosts, tests and benchmarks: each function of the face with its answer as a number and a list of 64-bit numbers.
 // host/breezeflint.h declares them.
+#![tactic(auto)]
+
 ghost use Rattle.std.specs.Prelude.{◌≡◌, ◌≤◌, length};
 ghost use Rattle.block.specs.Seal.{sealed};
 ghost use Rattle.volume.specs.Open.{open_of};

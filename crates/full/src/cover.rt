@@ -16,7 +16,7 @@ use travel::edge::{edge_duration, road_lasts};
 
 // What the edges make of a road or of two edges in turn: none has its two ends, the one that has them is late, first at a second, or
 // it is never late.
-#[derive(Drop)]
+#[derive(Clone, Copy)]
 pub enum Cover {
     Missing,
     Late(u64),

@@ -1,5 +1,7 @@
 // The full check: is every road, and every two edges in turn through a lower middle, covered by an edge no slower at every second?
 // Answers to document 01, "Full".
+#![tactic(auto)]
+
 ghost use Rattle.std.specs.Prelude.{◌≡◌, ◌<◌};
 ghost use Rattle.records.specs.Format.{volume_of, Laid, Counted, Few};
 ghost use Rattle.volume.specs.Sound.{Sound};
@@ -17,7 +19,7 @@ pub mod cover;
 
 // What the check answers. A road is named by its number, a pair by its left and its right edge; the number beside them is the earliest
 // late second. Refused has the refusal's number and its place.
-#[derive(Drop)]
+#[derive(Clone, Copy)]
 pub enum Verdict {
     Full,
     RoadMissing(usize),

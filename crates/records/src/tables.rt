@@ -26,7 +26,7 @@ pub const PERIOD: u64 = 86400;
 // The right of a piece with an empty middle: its left is a road.
 pub const EMPTY: usize = 4294967295;
 
-#[derive(Drop)]
+#[derive(Clone, Copy)]
 pub struct Counts {
     pub junctions: usize,
     pub roads: usize,
@@ -36,14 +36,14 @@ pub struct Counts {
 }
 
 // Where the tables of points, edges and pieces begin, as content words.
-#[derive(Drop)]
+#[derive(Clone, Copy)]
 pub struct Tables {
     pub points: usize,
     pub edges: usize,
     pub pieces: usize,
 }
 
-#[derive(Drop)]
+#[derive(Clone, Copy)]
 pub struct Road {
     pub from: usize,
     pub to: usize,
@@ -52,7 +52,7 @@ pub struct Road {
 }
 
 // A second of day and the duration there.
-#[derive(Drop)]
+#[derive(Clone, Copy)]
 pub struct Point {
     pub second: u64,
     pub duration: u64,

@@ -15,7 +15,7 @@ use records::tables::{
 const MOST_SPAN: usize = 4096;
 
 // The span of a piece or of all pieces of an edge, or that one breaks a rule.
-#[derive(Drop)]
+#[derive(Clone, Copy)]
 pub enum Fit {
     Span(usize),
     Fault,

@@ -1,5 +1,7 @@
 // Writes the sample network of document 01 as a sealed volume of one block to standard output. Its expectation, the file `stdout`
 // beside src/, is that volume, and so is sample.volume at the repository's root.
+#![tactic(auto)]
+
 use libc::STDOUT_FILENO;
 
 const EMPTY: u32 = 4294967295;

@@ -1,5 +1,7 @@
 // The earliest-arrival search with a budget: document 01, "The settling rule" and "What comes back". The rule itself, over the lent
 // work area, is the crate `settle`'s; here are the trail, the path, the refusals and the answer.
+#![tactic(auto)]
+
 ghost use Rattle.std.specs.Prelude.{◌≡◌, ◌^◌, ◌≤◌, ◌<◌};
 ghost use Rattle.records.specs.Format.{volume_of, Laid};
 ghost use Rattle.volume.specs.Open.{open_of};
@@ -21,7 +23,7 @@ pub mod path;
 pub mod trail;
 
 // Closed: arrival, units used, number of roads. No way: units used. Open: lower end, upper end, units used. Refused: number, place.
-#[derive(Drop)]
+#[derive(Clone, Copy)]
 pub enum Answer {
     Closed(u64, u64, usize),
     NoWay(u64),

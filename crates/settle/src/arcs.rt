@@ -14,7 +14,7 @@ use records::tables::{Counts, Tables, edge_to};
 use travel::edge::edge_duration;
 
 // The state to which an edge leads a state, if the state offers it.
-#[derive(Drop)]
+#[derive(Clone, Copy)]
 pub enum Lead {
     To(usize),
     Nowhere,

@@ -1,6 +1,8 @@
 // The settling rule over a lent work area: document 01, "The settling rule". A run marks the junctions, settles state by state, and
 // leaves the labels in the work area for whoever follows the trail back. The path, the refusals and the cleared work area after a
 // search are the crate `search`'s.
+#![tactic(auto)]
+
 ghost use Rattle.std.specs.Prelude.{◌≡◌, ◌+◌, ◌≤◌, ◌<◌, length};
 ghost use Rattle.records.specs.Format.{volume_of, Counted, Few, Laid};
 ghost use Rattle.records.specs.Index.{Linked};
@@ -25,14 +27,14 @@ pub mod marks;
 pub mod seen;
 
 // The upper end of a window, or none.
-#[derive(Drop)]
+#[derive(Clone, Copy)]
 pub enum Upper {
     At(u64),
     Missing,
 }
 
 // What a run ends with: units used; arrival and units used; lower end, upper end and units used.
-#[derive(Drop)]
+#[derive(Clone, Copy)]
 pub enum Outcome {
     NoWay(u64),
     Closed(u64, u64),

@@ -11,7 +11,7 @@ use crate::Upper;
 use crate::labels::{STATE, WAITING};
 
 // A waiting state with its arrival and the state before it in the chain, or none.
-#[derive(Drop)]
+#[derive(Clone, Copy)]
 pub enum Pick {
     Nobody,
     Picked(usize, u64, usize),
@@ -19,7 +19,7 @@ pub enum Pick {
 
 // What is seen before a unit: nothing waits, the destination waits with the least arrival, or a state to settle with its arrival
 // and the state before it in the chain.
-#[derive(Drop)]
+#[derive(Clone, Copy)]
 pub enum View {
     NothingWaits,
     Destination(u64),

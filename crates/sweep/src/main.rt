@@ -1,5 +1,7 @@
 // The sweep: every ordered pair of junctions of four full volumes at many departures, over midnight and several days, each question put
 // to the hierarchy search and to the search over the bare roads.
+#![tactic(auto)]
+
 use crate::bare::{NEVER, arrival, drive, junctions};
 use full::check;
 use search::{Answer, search};
@@ -10,14 +12,14 @@ use telling::say::{labelled, text};
 mod bare;
 
 // How the two searches compare: both arrive at one time, and so do the roads of the path; both find no way; or they differ.
-#[derive(Drop)]
+#[derive(Clone, Copy)]
 enum Seen {
     Arrives,
     NoWay,
     Differs,
 }
 
-#[derive(Drop)]
+#[derive(Clone, Copy)]
 struct Tally {
     arrive: u64,
     no_way: u64,

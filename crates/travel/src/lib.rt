@@ -1,5 +1,7 @@
 // Travel times: how long a road and an edge take at a departure, and the roads that an edge unfolds to. Answers to document 01,
 // "Travel time", and to its sentences on the unfolded path. What a volume holds is the crate `records`'.
+#![tactic(auto)]
+
 ghost use Rattle.std.specs.Prelude.{◌≡◌, ◌+◌, ◌<◌, length};
 ghost use Rattle.records.specs.Format.{volume_of, Counted, Laid};
 ghost use Rattle.volume.specs.Sound.{Sound};
@@ -19,7 +21,7 @@ pub mod last;
 pub mod path;
 pub mod road;
 
-#[derive(Drop)]
+#[derive(Clone, Copy)]
 pub enum Timing {
     Lasts(u64),
     Refused(u32, u64),

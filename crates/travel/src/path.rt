@@ -15,7 +15,7 @@ use records::tables::{EMPTY, LEFT, PIECE_WORDS, RIGHT, Tables, edge_first, edge_
 
 // How many roads an edge unfolds to, and how long they take. Both in one answer: the right half is entered when the left one arrives,
 // and asking for the left half's duration by itself would walk that half again at every level.
-#[derive(Drop)]
+#[derive(Clone, Copy)]
 pub struct Unfolded {
     pub roads: usize,
     pub duration: u64,

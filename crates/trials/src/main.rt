@@ -1,5 +1,7 @@
 // Document 01's cases as a program runs them: sealing, and the sample network. Each line says what came out and what should. The rules at
 // their boundaries are the crate `boundaries`', and questions beside an independent search `sweep`'s.
+#![tactic(auto)]
+
 use crate::fullness::fullness;
 use crate::questions::questions;
 use crate::sealing::sealing;

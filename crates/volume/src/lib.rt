@@ -1,6 +1,8 @@
 // Opening a volume: the head, the passes over all roads and all edges, and the first refusal with its place. Answers to document 01,
 // "The volume". What the words mean is the crate `records`', when one road or edge obeys `rules`'. Travel times are said in the crate
 // `travel`.
+#![tactic(auto)]
+
 ghost use Rattle.std.specs.Prelude.{◌≡◌, ◌*◌, ◌/◌, ◌≤◌, length};
 ghost use Rattle.block.specs.Choose.{choose};
 ghost use Rattle.records.specs.Format.{volume_of, counts_of, tables_of, Few, Laid};
@@ -16,7 +18,7 @@ pub mod edge_pass;
 pub mod repeats;
 pub mod road_pass;
 
-#[derive(Drop)]
+#[derive(Clone, Copy)]
 pub enum Opening {
     Opened(Counts),
     Refused(u32, u64),

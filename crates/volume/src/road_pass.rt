@@ -7,7 +7,7 @@ use records::tables::{Counts, Tables, road_at};
 use rules::roads::road_fits;
 
 // What a pass over all roads or edges finds: nothing, or the place of the first fault.
-#[derive(Drop)]
+#[derive(Clone, Copy)]
 pub enum Pass {
     Fine,
     Fault(usize),
