@@ -1,0 +1,10 @@
+use Rattle.std.proofs.Common.{refl, rules}
+use Rattle.block.specs.Seal.{seal_to, seal_to_next}
+use Rattle.block.proofs.seal_blocks.Goals as goal
+
+pub loop-k-init : goal.loop-k-init
+unfolding seal_to
+loop-k-init c = (search rules, refl, refl)
+
+pub loop-k-preserved : goal.loop-k-preserved
+loop-k-preserved c = (search rules, cc (seal_to_next c.args.v.now c.loop-k.k), search rules)
