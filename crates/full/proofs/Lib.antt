@@ -1,2 +1,0 @@
--- what the proofs of the passes share
-mod Tags

@@ -1,0 +1,67 @@
+use Prim.Native.Nat.{ℕ, ◌+◌, ◌<◌}
+use mathlib.Core.Path.{◌≡◌, sym, ◌∙◌, ap}
+use mathlib.Core.Bool.{false}
+use native.Mathlib.Omega.{arith}
+use borrow.Author.Count.{below_more}
+use borrow.Author.Rules.{rules}
+use Rattle.settle.specs.Edges.{on_walk, walk_none}
+use Rattle.settle.specs.Marked.{mark_one, mark_other, falls, falls_away, falls_high, falls_unmarked, mark_destination, mark_above, mark_missing}
+use Rattle.travel.specs.Network.{network_of}
+use Rattle.records.specs.Index.{next_low, link_next}
+use Rattle.records.specs.Format.{volume_of}
+use Rattle.theory.specs.Marks.{marked}
+use Rattle.settle.proofs.marks.mark_of.Goals as goal
+use Rattle.settle.proofs.marks.mark_of.Goals.{then-w-u+else-marks-w-eq1, else-w-u}
+
+pub returns-then-u-to : goal.returns-then-u-to
+returns-then-u-to c =
+    let a = c.args in
+    mark_destination (volume_of a.v.now) a.to a.u c.if-u-to.true
+
+pub loop-e-init : goal.loop-e-init
+loop-e-init c =
+    let vol = volume_of c.args.v.now in
+    let u = c.args.u in
+    let is = c.requires.linked.firsts u c.requires.edges_value.1 in (
+      on_walk vol u 0 _ (omega arith) is,
+      walk_none vol u 0 _ (falls vol c.args.to u) (omega arith) is (falls_away vol c.args.to u) (λ j h. absurd (omega arith)),
+    )
+
+pub returns-then-marks-w-eq1 : goal.returns-then-marks-w-eq1
+returns-then-marks-w-eq1 c =
+    let vol = volume_of c.args.v.now in
+    let to = c.edge_to-w.ensures.0 in
+    let lt : c.loop-e.e < vol.edges = search rules in
+    let below = c.if-w-u.true in
+    mark_above vol c.args.to c.args.u c.loop-e.e lt (c.loop-e.invariant.0.begins lt) (omega arith)
+    (sym (ap (marked (network_of vol) c.args.to) to) ∙ mark_one _ _ (c.requires.marks_below _ below) c.if-marks-w-eq1.true)
+
+pub loop-e-smaller : goal.loop-e-smaller
+loop-e-smaller c =
+    let vol = volume_of c.args.v.now in
+    let lt : c.loop-e.e < vol.edges = search rules in
+    let e = link_next vol _ _ c.args.u c.loop-e.e c.requires.linked lt (c.loop-e.invariant.0.begins lt) c.requires.edges_value.1 in
+    let low = next_low vol c.args.u (c.loop-e.e + 1) (omega arith) in
+    omega arith
+
+pub loop-e-preserved : goal.loop-e-preserved
+loop-e-preserved c =
+    let vol = volume_of c.args.v.now in
+    let d = c.args.to in
+    let u = c.args.u in
+    let e = c.loop-e.e in
+    let lt : e < vol.edges = search rules in
+    let from = c.loop-e.invariant.0.begins lt in
+    let to = c.edge_to-w.ensures.0 in
+    let is = link_next vol _ _ u e c.requires.linked lt from c.requires.edges_value.1 in
+    let here : falls vol d u e ≡ false = elim c.if-w-u.branch [
+      | then-w-u+else-marks-w-eq1 w ↦ falls_unmarked vol d u e from (omega (arith, w.if-w-u.true)) (sym (ap (marked (network_of vol) d) to) ∙ mark_other _ _ (c.requires.marks_below _ w.if-w-u.true) w.if-marks-w-eq1.false)
+      | else-w-u w ↦ falls_high vol d u e from (omega (arith, w.if-w-u.false))
+    ] in (
+      on_walk vol u (e + 1) _ (omega arith) is,
+      walk_none vol u (e + 1) _ (falls vol d u) (omega arith) is (falls_away vol d u) (below_more (λ (j : ℕ). falls vol d u j ≡ false) e c.loop-e.invariant.1 here),
+    )
+
+pub returns : goal.returns
+returns c =
+    mark_missing (volume_of c.args.v.now) c.args.to c.args.u c.if-u-to.false (λ e h. c.loop-e.invariant.1 e (omega arith))

@@ -1,0 +1,12 @@
+use Prim.Native.Nat.{◌+◌, ◌-◌}
+use Rattle.settle.specs.Chain.{Chained}
+use Rattle.settle.specs.Units.{Onward}
+use Rattle.records.specs.Format.{volume_of}
+use Rattle.settle.proofs.units.Given as goal
+
+abbrev pub invariant-loop-arrival : goal.invariant-loop-arrival
+invariant-loop-arrival l =
+    Onward (volume_of l.v) l.from l.to l.departure l.budget l.initial.work l.used l.work × Chained (l.n + l.n) l.work l.head
+
+abbrev pub decreases-loop-arrival : goal.decreases-loop-arrival
+decreases-loop-arrival l = l.budget - l.used
