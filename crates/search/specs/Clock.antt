@@ -17,7 +17,6 @@ use Rattle.travel.specs.Halves.{edge_short}
 use Rattle.settle.specs.Units.{one_unit}
 use Rattle.search.specs.Path.{path_of}
 use Rattle.search.specs.Answer.{upper_fits, told, path_told, ruled, number}
-use Rattle.search.specs.declared.Answer.{Answer}
 use Rattle.search.specs.declared.Answer.TheVariants.{Closed, Refused}
 
 -- every arrival in the table is at most m
