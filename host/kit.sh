@@ -13,8 +13,7 @@ find_kit() {
     rt=$(command -v rt) || die "no rt on the PATH"
     rt=$(readlink -f "$rt")
     home=${RATTLE_HOME:-$(dirname "$(dirname "$rt")")}
-    own=$home/on/$(uname -m)
-    tools=$own/toolchain
+    tools=$home/toolchain
     [ -x "$tools/bin/clang" ] || die "the kit at $home has no compiler for this machine, $(uname -m)"
     emulator=$tools/bin/qemu-x86_64
     [ -x "$emulator" ] || emulator=''
@@ -28,11 +27,11 @@ find_archive() {
         archive=$(readlink -f "$BF_ARCHIVE") && [ -f "$archive" ] || die "no archive $BF_ARCHIVE"
         return 0
     fi
-    archive=$root/target/staticlib/libexports.a
-    [ ! -f "$archive" ] || [ -n "$(find "$root/crates" "$root/crates.txt" -newer "$archive")" ] || return 0
-    (cd "$root" && "$rt" staticlib exports) >"$made/staticlib.log" 2>&1 && return 0
-    tail -n 20 "$made/staticlib.log" >&2
-    die "rt staticlib exports failed"
+    archive=$root/crates/exports/out/libexports.a
+    [ ! -f "$archive" ] || [ -n "$(find "$root/crates" "$root/crates.txt" -name out -prune -o -newer "$archive" -print)" ] || return 0
+    (cd "$root/crates/exports" && "$rt" lib) >"$made/exports.log" 2>&1 && [ -f "$archive" ] && return 0
+    tail -n 20 "$made/exports.log" >&2
+    die "rt lib failed in crates/exports"
 }
 
 # The kit has no C headers: include/ stands in for the standard ones.
@@ -55,7 +54,7 @@ compile_all() { # NAME...
 # The program of $objects and an archive.
 link() { # PROGRAM ARCHIVE
     # shellcheck disable=SC2086
-    (cd "$made" && "$own/bin/rattle-link" --target x86_64-unknown-linux-gnu --toolchain "$tools" -o "$1" \
+    (cd "$made" && "$home/bin/rattle-link" --target x86_64-unknown-linux-gnu --toolchain "$tools" -o "$1" \
         $objects "$2") >"$made/link.log" 2>&1 || { cat "$made/link.log" >&2; die "$1 does not link"; }
 }
 
