@@ -5,8 +5,8 @@
    the number of a refusal. Each list is a pointer, not null even where the
    length is 0, and a length in elements; no two lists of one call overlap.
    The volume is only read, except by bf_seal. A call takes up to
-   300 KB of stack, as measured at the limits of the format and on edges that
-   nest a thousand deep, and nothing from the heap.
+   300 KB of stack, as measured (with rattle-kit-5b) at the limits of the format
+   and on edges that nest a thousand deep, and nothing from the heap.
 
    out needs 8 places: with fewer, the answer is 9 and nothing is changed. On
    any other refusal out[0] is its place. Places that a case does not name keep
