@@ -2,15 +2,15 @@
 // answer is, is the crate `search`'s, and how it is written, `telling`'s.
 #![tactic(auto)]
 
-ghost use Rattle.std.specs.Prelude.{◌≤◌, length};
+ghost use Rattle.std.specs.Prelude.{◌≤◌, length, IfOk};
 
 use block::word;
-use libc::STDIN_FILENO;
 use search::{Answer, search};
+use std::io::{self, Read};
 use telling::say::{closed, report, text};
 
 // Answers the question at the start of the input over the volume behind it.
-fn ask(input: &[u8], work: &mut [u64], path: &mut [u32])
+fn ask(rt: &impl Print, input: &[u8], work: &mut [u64], path: &mut [u32]) -> io::Result<()>
     requires { 16 ≤ length input.now }
 {
     let from = word(input, 0);
@@ -19,26 +19,38 @@ fn ask(input: &[u8], work: &mut [u64], path: &mut [u32])
     let budget = word(input, 3);
     let answer = search(&input[16..], from, to, departure, budget, work, path);
     let Answer::Closed(arrival, used, roads) = answer else {
-        report(answer);
-        return;
+        return report(rt, answer);
     };
-    closed(arrival, used, path, roads);
+    closed(rt, arrival, used, path, roads)
 }
 
-fn main() {
+// Reads until the buffer is full or the input ends, and answers how many bytes it put at the start of the buffer.
+fn read_full(reader: &mut impl Read, input: &mut [u8]) -> io::Result<usize>
+    ensures { IfOk result (λ n. n ≤ length input.new) }
+{
+    let mut got: usize = 0;
+    while got < input.len() {
+        let n = reader.read(&mut input[got..])?;
+        if n == 0 {
+            break;
+        }
+        got += n;
+    }
+    Ok(got)
+}
+
+fn main(rt: HostRuntime) -> io::Result<()> {
     // the question, 128 blocks, and one byte more, by which a larger volume is known
     let mut input = [0u8; 65553];
-    let got = io::read_full(STDIN_FILENO, &mut input);
+    let got = read_full(&mut rt.stdin(), &mut input)?;
     if got < 16 {
-        text(b"no question\n");
-        return;
+        return text(&rt, b"no question\n");
     }
     if 65552 < got {
-        text(b"too large\n");
-        return;
+        return text(&rt, b"too large\n");
     }
     let mut work = [0u64; 8192];
     let mut path = [0u32; 4096];
-    ask(&input[..got], &mut work, &mut path);
-    text(b"\n");
+    ask(&rt, &input[..got], &mut work, &mut path)?;
+    text(&rt, b"\n")
 }

@@ -2,7 +2,7 @@
 // beside src/, is that volume, and so is sample.volume at the repository's root.
 #![tactic(auto)]
 
-use libc::STDOUT_FILENO;
+use std::io::{self, Write};
 
 const EMPTY: u32 = 4294967295;
 
@@ -13,7 +13,7 @@ const WORDS: [u32; 56] = [
     0, 1,
 ];
 
-fn main() {
+fn main(rt: HostRuntime) -> io::Result<()> {
     let words = WORDS;
     let mut v = [0u8; 512];
     let mut i: usize = 0;
@@ -22,5 +22,5 @@ fn main() {
         i += 1;
     }
     block::seal(&mut v);
-    io::write_all(STDOUT_FILENO, &v);
+    io::writer(&rt).write_all(&v)
 }

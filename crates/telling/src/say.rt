@@ -4,154 +4,154 @@ ghost use Rattle.telling.specs.Room.{RoadsFit};
 
 use block::Sealing;
 use full::Verdict;
-use libc::STDOUT_FILENO;
 use records::tables::Counts;
 use search::Answer;
 use settle::Upper;
+use std::io::{self, Write};
 use travel::Timing;
 use volume::Opening;
 
-pub fn text(t: &[u8])
+pub fn text(rt: &impl Print, t: &[u8]) -> io::Result<()>
     ensures { Unit {0} }
 {
-    io::write_all(STDOUT_FILENO, t);
+    io::writer(rt).write_all(t)
 }
 
-pub(crate) fn number(n: u64) {
-    io::print_decimal(STDOUT_FILENO, n);
+pub(crate) fn number(rt: &impl Print, n: u64) -> io::Result<()> {
+    print!(rt; "{n}")
 }
 
 // A text, and a number after it.
-pub fn labelled(t: &[u8], n: u64)
+pub fn labelled(rt: &impl Print, t: &[u8], n: u64) -> io::Result<()>
     ensures { Unit {0} }
 {
-    text(t);
-    number(n);
+    text(rt, t)?;
+    number(rt, n)
 }
 
 fn wide(x: u32) -> u64 {
     x as u64
 }
 
-fn refused(number: u32, place: u64) {
-    labelled(b"refused ", wide(number));
-    labelled(b" ", place);
+fn refused(rt: &impl Print, number: u32, place: u64) -> io::Result<()> {
+    labelled(rt, b"refused ", wide(number))?;
+    labelled(rt, b" ", place)
 }
 
 // The first n roads of a path, each after a space.
-fn roads(path: &[u32], n: usize)
+fn roads(rt: &impl Print, path: &[u32], n: usize) -> io::Result<()>
     requires { n ≤ length path.now }
 {
     let mut i: usize = 0;
     while i < n {
-        labelled(b" ", wide(path[i]));
+        labelled(rt, b" ", wide(path[i]))?;
         i += 1;
     }
+    Ok(())
 }
 
 // The upper end of an open answer, `-` if there is none.
-fn upper(end: Upper) {
+fn upper(rt: &impl Print, end: Upper) -> io::Result<()> {
     match end {
-        Upper::At(high) => number(high),
-        Upper::Missing => text(b"-"),
+        Upper::At(high) => number(rt, high),
+        Upper::Missing => text(rt, b"-"),
     }
 }
 
 // A closed answer, with the n roads that stand in the path list.
-pub fn closed(arrival: u64, used: u64, path: &[u32], n: usize)
+pub fn closed(rt: &impl Print, arrival: u64, used: u64, path: &[u32], n: usize) -> io::Result<()>
     requires { n ≤ length path.now }
     ensures { Unit {0} }
 {
-    labelled(b"arrive ", arrival);
-    labelled(b" used ", used);
-    text(b" roads");
-    roads(path, n);
+    labelled(rt, b"arrive ", arrival)?;
+    labelled(rt, b" used ", used)?;
+    text(rt, b" roads")?;
+    roads(rt, path, n)
 }
 
 // An answer that is not closed, as it is.
-pub fn report(a: Answer)
+pub fn report(rt: &impl Print, a: Answer) -> io::Result<()>
     ensures { Unit {0} }
 {
     match a {
         // taken apart before this is called
-        Answer::Closed(_, _, _) => {}
-        Answer::NoWay(used) => labelled(b"no way used ", used),
+        Answer::Closed(_, _, _) => Ok(()),
+        Answer::NoWay(used) => labelled(rt, b"no way used ", used),
         Answer::Open(low, end, used) => {
-            labelled(b"open ", low);
-            text(b" to ");
-            upper(end);
-            labelled(b" used ", used);
+            labelled(rt, b"open ", low)?;
+            text(rt, b" to ")?;
+            upper(rt, end)?;
+            labelled(rt, b" used ", used)
         }
-        Answer::Refused(number, place) => refused(number, place),
+        Answer::Refused(number, place) => refused(rt, number, place),
     }
 }
 
 // An answer of the search as the desk writes it, with the roads that stand in the path list.
-pub fn answer(a: Answer, path: &[u32])
+pub fn answer(rt: &impl Print, a: Answer, path: &[u32]) -> io::Result<()>
     requires { RoadsFit a path.now }
-    ensures* { ⊤ₛ }
+    ensures { Unit {0} }
 {
     let Answer::Closed(arrival, used, n) = a else {
-        report(a);
-        return;
+        return report(rt, a);
     };
-    closed(arrival, used, path, n);
+    closed(rt, arrival, used, path, n)
 }
 
 // What sealing answers.
-pub(crate) fn sealing(a: Sealing) {
+pub(crate) fn sealing(rt: &impl Print, a: Sealing) -> io::Result<()> {
     match a {
-        Sealing::Sealed => text(b"sealed"),
-        Sealing::Refused(number, place) => refused(number, place),
+        Sealing::Sealed => text(rt, b"sealed"),
+        Sealing::Refused(number, place) => refused(rt, number, place),
     }
 }
 
 // How long a road or an edge takes.
-pub(crate) fn timing(a: Timing) {
+pub(crate) fn timing(rt: &impl Print, a: Timing) -> io::Result<()> {
     match a {
-        Timing::Lasts(seconds) => number(seconds),
-        Timing::Refused(number, place) => refused(number, place),
+        Timing::Lasts(seconds) => number(rt, seconds),
+        Timing::Refused(number, place) => refused(rt, number, place),
     }
 }
 
-fn counts(c: Counts) {
-    labelled(b"junctions ", c.junctions as u64);
-    labelled(b" roads ", c.roads as u64);
-    labelled(b" points ", c.points as u64);
-    labelled(b" edges ", c.edges as u64);
-    labelled(b" pieces ", c.pieces as u64);
+fn counts(rt: &impl Print, c: Counts) -> io::Result<()> {
+    labelled(rt, b"junctions ", c.junctions as u64)?;
+    labelled(rt, b" roads ", c.roads as u64)?;
+    labelled(rt, b" points ", c.points as u64)?;
+    labelled(rt, b" edges ", c.edges as u64)?;
+    labelled(rt, b" pieces ", c.pieces as u64)
 }
 
 // What opening gives.
-pub(crate) fn opening(a: Opening) {
+pub(crate) fn opening(rt: &impl Print, a: Opening) -> io::Result<()> {
     match a {
-        Opening::Opened(c) => counts(c),
-        Opening::Refused(number, place) => refused(number, place),
+        Opening::Opened(c) => counts(rt, c),
+        Opening::Refused(number, place) => refused(rt, number, place),
     }
 }
 
 // What the full check answers.
-pub(crate) fn verdict(a: Verdict) {
+pub(crate) fn verdict(rt: &impl Print, a: Verdict) -> io::Result<()> {
     match a {
-        Verdict::Full => text(b"full"),
+        Verdict::Full => text(rt, b"full"),
         Verdict::RoadMissing(k) => {
-            labelled(b"road ", k as u64);
-            text(b" has no edge");
+            labelled(rt, b"road ", k as u64)?;
+            text(rt, b" has no edge")
         }
         Verdict::RoadLate(k, second) => {
-            labelled(b"road ", k as u64);
-            labelled(b" late at ", second);
+            labelled(rt, b"road ", k as u64)?;
+            labelled(rt, b" late at ", second)
         }
         Verdict::PairMissing(l, r) => {
-            labelled(b"edges ", l as u64);
-            labelled(b" and ", r as u64);
-            text(b" have no edge");
+            labelled(rt, b"edges ", l as u64)?;
+            labelled(rt, b" and ", r as u64)?;
+            text(rt, b" have no edge")
         }
         Verdict::PairLate(l, r, second) => {
-            labelled(b"edges ", l as u64);
-            labelled(b" and ", r as u64);
-            labelled(b" late at ", second);
+            labelled(rt, b"edges ", l as u64)?;
+            labelled(rt, b" and ", r as u64)?;
+            labelled(rt, b" late at ", second)
         }
-        Verdict::Refused(number, place) => refused(number, place),
+        Verdict::Refused(number, place) => refused(rt, number, place),
     }
 }
