@@ -6,6 +6,7 @@ use crate::fullness::fullness;
 use crate::questions::questions;
 use crate::sealing::sealing;
 use crate::times::times;
+use std::io;
 use telling::say::text;
 
 mod fullness;
@@ -13,10 +14,13 @@ mod questions;
 mod sealing;
 mod times;
 
-fn main() {
-    text(b"Document 01 as programs run it: what comes out, and what should\n");
-    sealing();
-    times();
-    questions();
-    fullness();
+fn main(rt: HostRuntime) -> io::Result<()> {
+    text(
+        &rt,
+        b"Document 01 as programs run it: what comes out, and what should\n",
+    )?;
+    sealing(&rt)?;
+    times(&rt)?;
+    questions(&rt)?;
+    fullness(&rt)
 }
