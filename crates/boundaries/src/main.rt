@@ -4,11 +4,12 @@
 
 use crate::opening::openings;
 use crate::spans::spans;
+use std::io;
 
 mod opening;
 mod spans;
 
-fn main() {
-    openings();
-    spans();
+fn main(rt: HostRuntime) -> io::Result<()> {
+    openings(&rt)?;
+    spans(&rt)
 }

@@ -5,6 +5,7 @@ ghost use Rattle.std.specs.Prelude.{◌<◌};
 use crate::opening::opens;
 use block::seal;
 use search::search;
+use std::io;
 use telling::line::{asked, heading, timed};
 use telling::page::{lay, put_row};
 use telling::say::text;
@@ -89,16 +90,16 @@ fn put_all(v: &mut [u8], s: Starts) {
 }
 
 // The last edge goes over 4,096 roads of a minute each, and a path list with one place less has no room for them.
-fn ask_greatest(v: &[u8]) {
+fn ask_greatest(rt: &impl Print, v: &[u8]) -> io::Result<()> {
     let mut work = [0u64; 112];
     let mut path = [0u32; 4095];
-    timed(b"edge ", 181, 0, edge_time(v, 181, 0), b"245760");
+    timed(rt, b"edge ", 181, 0, edge_time(v, 181, 0), b"245760")?;
     let a = search(v, 13, 12, 0, 5, &mut work, &mut path);
-    text(b"work 112 room 4095: ");
-    asked(13, 12, 0, 5, a, &path, b"refused 9 4096");
+    text(rt, b"work 112 room 4095: ")?;
+    asked(rt, 13, 12, 0, 5, a, &path, b"refused 9 4096")
 }
 
-fn greatest() {
+fn greatest(rt: &impl Print) -> io::Result<()> {
     let mut v = [0u8; 6656];
     let s = Starts {
         points: 110,
@@ -109,15 +110,16 @@ fn greatest() {
     put_all(&mut v, s);
     seal(&mut v);
     opens(
+        rt,
         b"span 4096",
         &v,
         b"junctions 14 roads 26 points 26 edges 182 pieces 182",
-    );
-    ask_greatest(&v);
+    )?;
+    ask_greatest(rt, &v)
 }
 
 // The same with a road from 12 on to 14, and an edge over it that goes from 13 by the edge of span 4,096.
-fn over() {
+fn over(rt: &impl Print) -> io::Result<()> {
     let mut v = [0u8; 7168];
     let s = Starts {
         points: 114,
@@ -130,11 +132,11 @@ fn over() {
     put_edge(&mut v, s, 182, 12, 14, 26, EMPTY, 1);
     put_edge(&mut v, s, 183, 13, 14, 181, 182, 4097);
     seal(&mut v);
-    opens(b"span 4097", &v, b"refused 6 183");
+    opens(rt, b"span 4097", &v, b"refused 6 183")
 }
 
-pub(crate) fn spans() {
-    heading(b"The greatest span");
-    greatest();
-    over();
+pub(crate) fn spans(rt: &impl Print) -> io::Result<()> {
+    heading(rt, b"The greatest span")?;
+    greatest(rt)?;
+    over(rt)
 }
