@@ -5,6 +5,7 @@
 use crate::bare::{NEVER, arrival, drive, junctions};
 use full::check;
 use search::{Answer, search};
+use std::io;
 use telling::line::{checked, heading, should};
 use telling::networks::{ferry, hill, ring, sample};
 use telling::say::{labelled, text};
@@ -100,27 +101,30 @@ fn compare_all(v: &[u8]) -> Tally {
 }
 
 // The lines of a volume: is it full, and how did the questions come out?
-fn swept(label: &[u8], v: &[u8]) {
-    checked(label, check(v), b"full");
+fn swept(rt: &impl Print, label: &[u8], v: &[u8]) -> io::Result<()> {
+    checked(rt, label, check(v), b"full")?;
     let t = compare_all(v);
-    text(label);
-    labelled(b": ", t.arrive);
-    labelled(b" arrive, ", t.no_way);
-    labelled(b" no way, ", t.differ);
-    text(b" differ");
-    should(b"0 differ");
+    text(rt, label)?;
+    labelled(rt, b": ", t.arrive)?;
+    labelled(rt, b" arrive, ", t.no_way)?;
+    labelled(rt, b" no way, ", t.differ)?;
+    text(rt, b" differ")?;
+    should(rt, b"0 differ")
 }
 
-fn main() {
-    heading(b"Every pair of junctions at 54 departures, beside a search over the bare roads");
+fn main(rt: HostRuntime) -> io::Result<()> {
+    heading(
+        &rt,
+        b"Every pair of junctions at 54 departures, beside a search over the bare roads",
+    )?;
     let mut v = [0u8; 512];
     sample(&mut v);
-    swept(b"the sample", &v);
+    swept(&rt, b"the sample", &v)?;
     hill(&mut v);
-    swept(b"round the hill", &v);
+    swept(&rt, b"round the hill", &v)?;
     ring(&mut v);
-    swept(b"the ring", &v);
+    swept(&rt, b"the ring", &v)?;
     let mut v = [0u8; 1024];
     ferry(&mut v);
-    swept(b"the ferry", &v);
+    swept(&rt, b"the ferry", &v)
 }
