@@ -3,7 +3,7 @@
 use Rattle.std.specs.Prelude.{ℕ, ◌≤◌, ◌≡◌, List}
 use Rattle.std.proofs.Common.{ap, sym, ◌∙◌}
 use Rattle.theory.specs.Network as theory
-use Rattle.theory.specs.Promises.{full_every_second}
+use Rattle.theory.proofs.Promises.{full_every_second}
 use Rattle.records.specs.Format.{volume_of}
 use Rattle.volume.specs.Opened.{opened}
 use Rattle.travel.specs.Network.{network_of, sound_network}

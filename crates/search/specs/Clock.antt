@@ -7,8 +7,10 @@ use Rattle.block.specs.Choose.{choose, choose_yes, both_yes}
 use Rattle.theory.specs.Settling as Rule
 use Rattle.theory.specs.Settling.{Label, nothing, waiting, settled, Table, first, settle, UpperEnd, none, at_most, no_way, closed, open_from, upper_end, View, nothing_waits, destination, next, look, tests, run, search_from, arrives_by, web}
 use Rattle.theory.specs.Labels.{Waits, Has, waits_has, put_at}
-use Rattle.theory.specs.OneUnit.{Step, kept, settles, reached, hastened, settle_step}
-use Rattle.theory.specs.Looks.{Sees, look_right}
+use Rattle.theory.specs.OneUnit.{Step, kept, settles, reached, hastened}
+use Rattle.theory.proofs.OneUnit.{settle_step}
+use Rattle.theory.specs.Looks.{Sees}
+use Rattle.theory.proofs.Looks.{look_right}
 use Rattle.theory.specs.Windows.{IsAt}
 use Rattle.records.specs.Format.{Volume}
 use Rattle.volume.specs.Sound.{Sound}

@@ -11,7 +11,7 @@ use Rattle.theory.specs.Network.{Network, Roads, FullDay, SoundNetwork}
 use Rattle.theory.specs.Settling as Rule
 use Rattle.theory.specs.Settling.{none, open_from}
 use Rattle.theory.specs.Windows.{NotBelow, IsAt, Tops, used, Finished, Narrows}
-use Rattle.theory.specs.Promises as Theory
+use Rattle.theory.proofs.Promises as Theory
 use Rattle.records.specs.Format.{volume_of}
 use Rattle.volume.specs.Open.{open_of}
 use Rattle.volume.specs.Opened.{opened}

@@ -10,9 +10,9 @@ use Rattle.theory.specs.Network.{Network, Edges}
 use Rattle.theory.specs.Settling as Rule
 use Rattle.theory.specs.Settling.{Table, no_way, closed, open_from, edges_by, web, trail_back, arc_of}
 use Rattle.theory.specs.Reach.{edges_along}
-use Rattle.theory.specs.Answers.{closed_trail}
-use Rattle.theory.specs.States.{asked, reach_edges}
-use Rattle.theory.specs.Promises.{units_bounded}
+use Rattle.theory.proofs.Answers.{closed_trail}
+use Rattle.theory.proofs.States.{asked, reach_edges}
+use Rattle.theory.proofs.Promises.{units_bounded}
 use Rattle.records.specs.Format.{Volume, volume_of}
 use Rattle.volume.specs.Sound.{Sound}
 use Rattle.volume.specs.Open.{records_of, open_of}

@@ -6,7 +6,8 @@ use Rattle.std.proofs.Math.Decide.{ℕ_discrete, dec_lt}
 use Rattle.block.specs.Choose.{choose, choose_yes, choose_no}
 use Rattle.theory.specs.Settling.{Table, Pick as Picking, nobody, picked, least}
 use Rattle.theory.specs.Labels.{Waits}
-use Rattle.theory.specs.Looks.{Picks, least_right}
+use Rattle.theory.specs.Looks.{Picks}
+use Rattle.theory.proofs.Looks.{least_right}
 use Rattle.settle.specs.Work.{label_of, labels, labels_in}
 use Rattle.settle.specs.Chain.{WaitsAt, after, Among, Leads, Chained, Precedes, few}
 use Rattle.settle.specs.declared.seen.Pick.{Pick}

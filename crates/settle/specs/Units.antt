@@ -8,8 +8,10 @@ use native.Mathlib.Omega.{arith}
 use Rattle.std.proofs.Math.Nat.{sub-zero}
 use Rattle.theory.specs.Settling.{Label, nothing, waiting, settled, Table, put, offered, first, arc_of, settle, least, UpperEnd, upper_end, View, nothing_waits, destination, next, view_from, look, run, search_from, arrives_by, answer, open_from}
 use Rattle.theory.specs.Labels.{Waits, put_at}
-use Rattle.theory.specs.OneUnit.{Step, kept, settles, reached, hastened, settle_step}
-use Rattle.theory.specs.Looks.{Next, Sees, look_right}
+use Rattle.theory.specs.OneUnit.{Step, kept, settles, reached, hastened}
+use Rattle.theory.proofs.OneUnit.{settle_step}
+use Rattle.theory.specs.Looks.{Next, Sees}
+use Rattle.theory.proofs.Looks.{look_right}
 use Rattle.theory.specs.Computing.{look_is, run_no_way, run_closed, run_open, run_unit}
 use Rattle.records.specs.Format.{Volume}
 use Rattle.rules.specs.Rules.{longest, most_span}

@@ -4,8 +4,10 @@ use Rattle.std.specs.Prelude.{ℕ, ◌+◌, ◌*◌, ◌%◌, ◌^◌, ◌≤◌
 use Rattle.std.proofs.Math.Path.{ap}
 use Rattle.std.proofs.Common.{ap₂, sym, ◌∙◌, length-append, arith, mod-lt}
 use Rattle.theory.specs.Network.{Piece, road_of, pair_of, by_piece, edge_arr, SoundNetwork, Spans}
-use Rattle.theory.specs.Pieces.{InForce, edge_is, edge_bound, by_pieces}
-use Rattle.theory.specs.Unfold.{roads_by_piece, roads_of_edge, unfold_is}
+use Rattle.theory.specs.Pieces.{InForce}
+use Rattle.theory.proofs.Pieces.{edge_is, edge_bound, by_pieces}
+use Rattle.theory.specs.Unfold.{roads_by_piece, roads_of_edge}
+use Rattle.theory.proofs.Unfold.{unfold_is}
 use Rattle.records.specs.Format.{Volume}
 use Rattle.rules.specs.Rules.{longest, empty}
 use Rattle.volume.specs.Sound.{PairPiece, Sound}

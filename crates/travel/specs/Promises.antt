@@ -5,10 +5,10 @@ use Rattle.std.proofs.Common.{ap, ap₂, sym, ◌∙◌, arith}
 use Rattle.std.proofs.Math.Nat.{mod-lt, mul-add-mod_self_right}
 use Rattle.theory.specs.Ways.{Leads, drive}
 use Rattle.theory.specs.Network.{Roads}
-use Rattle.theory.specs.Pieces as Pieces
-use Rattle.theory.specs.Pieces.{edge_later}
-use Rattle.theory.specs.Fifo.{road_fifo}
-use Rattle.theory.specs.Unfold.{edge_unfolds}
+use Rattle.theory.proofs.Pieces as Pieces
+use Rattle.theory.proofs.Pieces.{edge_later}
+use Rattle.theory.proofs.Fifo.{road_fifo}
+use Rattle.theory.proofs.Unfold.{edge_unfolds}
 use Rattle.records.specs.Format.{Volume}
 use Rattle.rules.specs.Rules.{longest}
 use Rattle.volume.specs.Sound.{Sound}
