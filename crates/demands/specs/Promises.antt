@@ -13,7 +13,7 @@ use Rattle.settle.specs.declared.Upper.{Upper}
 use Rattle.full.specs.Fault.{verdict_of}
 use Rattle.full.specs.Paper.{paper}
 use Rattle.full.specs.Means.{Opens}
-use Rattle.full.specs.Promises.{full_exactly}
+use Rattle.full.proofs.Promises.{full_exactly}
 use Rattle.full.specs.declared.Verdict.TheVariants.{Full}
 use Rattle.search.specs.Answer.{Searched, path_told, ruled, number}
 use Rattle.search.specs.Tells.{said}

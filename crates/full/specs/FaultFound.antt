@@ -16,13 +16,12 @@ use Rattle.volume.specs.declared.Opening.TheVariants as opening
 use Rattle.records.specs.Index.{next_from, next_low, next_high, next_begins, next_skips}
 use Rattle.full.specs.Cover.{named, cover_of}
 use Rattle.full.specs.Runs.{from_jump}
-use Rattle.full.specs.Fault.{is_full, of_road, of_pair, is_pair, road_fault, pair_fault, lefts_fault, roads_fault, fault_of, answered, verdict_of}
-use Rattle.full.specs.FaultRow.{NoFault, fault_go, fault_is}
+use Rattle.full.specs.Fault.{is_full, of_road, of_pair, is_pair, road_fault, pair_fault, fault_of, answered, verdict_of}
+use Rattle.full.specs.FaultRow.{NoFault, fault_go}
 use Rattle.full.specs.Turns.{named_road, named_pair}
 use Rattle.rules.specs.Rules.{empty}
 use Rattle.volume.specs.Sound.{Sound}
 use Rattle.full.specs.declared.cover.Cover.{Cover}
-use Rattle.full.specs.declared.Verdict.{Verdict}
 use Rattle.full.specs.declared.Verdict.TheVariants.{Full, Refused}
 
 -- pairs
@@ -125,17 +124,6 @@ module _ (vol : Volume) (l m : ℕ) (is : m ≡ vol.edge_to l) where
   walk_next r s lt f w e = walk_on (r + 1) s (omega arith) e (fault_go (pair_fault vol l) vol.edges r lt f w.none)
 
 -- the whole
-
--- a road's fault comes first
-pub faults_road : (vol : Volume) (a : Verdict) → a ≡ roads_fault vol → a ≢ Full → a ≡ fault_of vol
-unfolding fault_of
-faults_road vol a e n =
-    e ∙ sym (choose_no (lefts_fault vol) (roads_fault vol) (fault_is (roads_fault vol) (λ z. n (e ∙ z))))
-
--- where no road has one, a pair's
-pub faults_pair : (vol : Volume) (a : Verdict) → roads_fault vol ≡ Full → a ≡ lefts_fault vol → a ≡ fault_of vol
-unfolding fault_of
-faults_pair vol a f e = e ∙ sym (choose_yes (lefts_fault vol) (roads_fault vol) (ap is_full f))
 
 -- a refusal is passed on
 pub verdict_refused : (v : List ℕ) (number place : ℕ) → open_of v ≡ opening.Refused number place → verdict_of v ≡ Refused number place

@@ -1,4 +1,3 @@
-pub mod Promises
 pub mod Cover
 pub mod Fault
 pub mod Paper
@@ -10,5 +9,4 @@ pub mod CoverFound
 pub mod FaultRow
 pub mod FaultFound
 pub mod CoverMeans
-pub mod FaultMeans
 pub mod Refusals

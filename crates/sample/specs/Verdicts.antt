@@ -15,7 +15,7 @@ use Rattle.travel.specs.Halves.{edge_by_piece}
 use Rattle.full.specs.Cover.{arrival_by}
 use Rattle.full.specs.Fault.{is_full, verdict_of}
 use Rattle.full.specs.Means.{RoadSays, PairSays, Pair}
-use Rattle.full.specs.FaultMeans.{holds_once}
+use Rattle.full.proofs.FaultMeans.{holds_once}
 use Rattle.full.specs.declared.cover.Cover.TheVariants.{Late, Fine}
 use Rattle.full.specs.declared.Verdict.TheVariants.{Full, RoadLate}
 use Rattle.sample.specs.Bytes.{sample, one_piece}

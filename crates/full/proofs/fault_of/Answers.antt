@@ -1,7 +1,7 @@
 use mathlib.Core.Path.{sym, ◌∙◌}
 use native.Mathlib.Omega.{arith}
 use lib.ListN.{replicate, length-replicate}
-use Rattle.full.specs.FaultFound.{faults_road, faults_pair}
+use Rattle.full.proofs.FaultFound.{faults_road, faults_pair}
 use Rattle.records.specs.Format.{volume_of}
 use Rattle.travel.specs.Digest.{digest_made}
 use Rattle.full.proofs.fault_of.Goals as goal

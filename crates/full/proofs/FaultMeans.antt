@@ -18,7 +18,8 @@ use Rattle.travel.specs.Network.{network_of}
 use Rattle.full.specs.Cover.{cover_of}
 use Rattle.full.specs.Fault.{is_full, of_road, of_pair, is_pair, road_fault, pair_fault, roads_fault, rights_fault, lefts_fault, fault_of, verdict_of}
 use Rattle.full.specs.FaultRow.{full_is, not_full, fault_none, row_full, row_found, row_is}
-use Rattle.full.specs.FaultFound.{pair_yes, no_pair, pair_fault_lem, faults_road, faults_pair, verdict_refused, verdict_opened}
+use Rattle.full.specs.FaultFound.{pair_yes, no_pair, pair_fault_lem, verdict_refused, verdict_opened}
+use Rattle.full.proofs.FaultFound.{faults_road, faults_pair}
 use Rattle.full.specs.Means.{RoadSays, PairSays, Pair, RoadsFine, PairsFine, RoadFirst, PairFirst, Says, Opens, Means}
 use Rattle.full.specs.CoverMeans.{cover_says, cover_is}
 use Rattle.full.specs.declared.cover.Cover.{Cover}

@@ -11,7 +11,7 @@ use Rattle.full.specs.Fault.{verdict_of}
 use Rattle.full.specs.Paper.{paper, paper_tells}
 use Rattle.full.specs.Refusals.{opening_numbered}
 use Rattle.full.specs.Means.{Opens, Means}
-use Rattle.full.specs.FaultMeans.{answer_holds, holds_once}
+use Rattle.full.proofs.FaultMeans.{answer_holds, holds_once}
 use Rattle.full.specs.declared.Verdict.{Verdict}
 use Rattle.full.specs.declared.Verdict.TheVariants.{Full, Refused}
 

@@ -1,0 +1,2 @@
+-- A road's duration in the document's words.
+pub mod Wording
