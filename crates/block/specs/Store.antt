@@ -1,5 +1,5 @@
 -- What a stored word does to the bytes and to the other words. Bytes of a lent list are below 256: `Bytes`.
-use Rattle.std.specs.Prelude.{◌≡◌, ℕ, ◌+◌, ◌*◌, ◌/◌, ◌%◌, ◌^◌, ◌<◌, ◌≢◌, List, length, set, slice_index, slice_index_or, slice_set}
+use Rattle.std.specs.Prelude.{◌≡◌, ℕ, ◌+◌, ◌*◌, ◌/◌, ◌%◌, ◌^◌, ◌<◌, ◌≢◌, List, length, set, slice_index, slice_index_or}
 use Rattle.std.proofs.Common.{ap, sym, ◌∙◌, arith, length-set, get_or-set_same, get_or-set_other}
 use Rattle.std.proofs.Math.Nat.{div-div-eq-div-mul, div-eq_of_lt}
 use Rattle.std.proofs.lemmas.List.{set-get_or}
@@ -35,9 +35,9 @@ pub put_written : (v : List ℕ) (i x : ℕ) → 4 * i + 3 < length v → Writte
 unfolding put_word
 put_written v i x room =
     let r₀ : 4 * i < length v = omega arith in
-    let r₁ : 4 * i + 1 < length (slice_set v (4 * i) (x % 256)) = rw length-set (omega arith) in
-    let r₂ : 4 * i + 2 < length (slice_set (slice_set v (4 * i) (x % 256)) (4 * i + 1) (x / 256 % 256)) = simp length-set (omega arith) in
-    let r₃ : 4 * i + 3 < length (slice_set (slice_set (slice_set v (4 * i) (x % 256)) (4 * i + 1) (x / 256 % 256)) (4 * i + 2) (x / 65536 % 256)) =
+    let r₁ : 4 * i + 1 < length (set v (4 * i) (x % 256)) = rw length-set (omega arith) in
+    let r₂ : 4 * i + 2 < length (set (set v (4 * i) (x % 256)) (4 * i + 1) (x / 256 % 256)) = simp length-set (omega arith) in
+    let r₃ : 4 * i + 3 < length (set (set (set v (4 * i) (x % 256)) (4 * i + 1) (x / 256 % 256)) (4 * i + 2) (x / 65536 % 256)) =
     simp length-set room in
     let a₁ : 4 * i ≢ 4 * i + 1 = λ e. omega arith in
     let a₂ : 4 * i ≢ 4 * i + 2 = λ e. omega arith in
@@ -62,7 +62,7 @@ written_kept v i x j y ne w = record {
 }
 
 -- a byte that stands there already
-same_byte : (v : List ℕ) (i b : ℕ) → slice_index v i ≡ b → slice_set v i b ≡ v
+same_byte : (v : List ℕ) (i b : ℕ) → slice_index v i ≡ b → set v i b ≡ v
 same_byte v i b e = ap (set v i) (sym e) ∙ set-get_or v i 0
 
 -- a word that is written already
@@ -71,10 +71,10 @@ unfolding put_word
 put_again v i x w =
     ap
     (λ (l : List ℕ).
-    slice_set (slice_set (slice_set l (4 * i + 1) (x / 256 % 256)) (4 * i + 2) (x / 65536 % 256)) (4 * i + 3) (x / 16777216 % 256))
+    set (set (set l (4 * i + 1) (x / 256 % 256)) (4 * i + 2) (x / 65536 % 256)) (4 * i + 3) (x / 16777216 % 256))
     (same_byte v (4 * i) (x % 256) w.first)
     ∙ ap
-    (λ (l : List ℕ). set (slice_set l (4 * i + 2) (x / 65536 % 256)) (4 * i + 3) (x / 16777216 % 256))
+    (λ (l : List ℕ). set (set l (4 * i + 2) (x / 65536 % 256)) (4 * i + 3) (x / 16777216 % 256))
     (same_byte v (4 * i + 1) (x / 256 % 256) w.second)
     ∙ ap (λ (l : List ℕ). set l (4 * i + 3) (x / 16777216 % 256)) (same_byte v (4 * i + 2) (x / 65536 % 256) w.third)
     ∙ same_byte v (4 * i + 3) (x / 16777216 % 256) w.fourth

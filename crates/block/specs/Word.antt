@@ -1,5 +1,5 @@
 -- The words of a volume: 32 bits, least byte first; and its content words, those of all blocks joined without the sums.
-use Rattle.std.specs.Prelude.{ℕ, ◌+◌, ◌*◌, ◌/◌, ◌%◌, ◌<◌, List, length, set, slice_index, slice_set}
+use Rattle.std.specs.Prelude.{ℕ, ◌+◌, ◌*◌, ◌/◌, ◌%◌, ◌<◌, List, length, set, slice_index}
 
 -- the word that begins at byte `at`
 unfoldable pub word_from : List ℕ → ℕ → ℕ
@@ -14,7 +14,7 @@ word_at v i = word_from v (4 * i)
 unfoldable pub put_word : List ℕ → ℕ → ℕ → List ℕ
 put_word v i x =
     set
-    (slice_set (slice_set (slice_set v (4 * i) (x % 256)) (4 * i + 1) (x / 256 % 256)) (4 * i + 2) (x / 65536 % 256))
+    (set (set (set v (4 * i) (x % 256)) (4 * i + 1) (x / 256 % 256)) (4 * i + 2) (x / 65536 % 256))
     (4 * i + 3)
     (x / 16777216 % 256)
 

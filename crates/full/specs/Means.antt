@@ -1,5 +1,6 @@
 -- What each answer of the full check says, without a word on how it is found: document 01, "Full". Covered, missing and late for a
--- road or a pair; the first fault in the document's order; full. Promises shows that the check's answer is the one that holds.
+-- road or a pair; the first fault in the document's order; full. proofs/Promises shows that the check's answer is the
+-- one that holds.
 use Rattle.std.specs.Prelude.{ℕ, ◌≤◌, ◌<◌, ◌≡◌, ◌≢◌, List}
 use Rattle.theory.specs.Network.{Piece, road_of, pair_of, Covers, DayZero, FullDay}
 use Rattle.records.specs.Format.{Volume, volume_of}

@@ -1,4 +1,5 @@
--- On a sound network an edge is its piece in force: the equation, the induction over pieces, and what follows of every edge.
+-- Edges by their pieces, on a sound network: the one equation of an edge's arrival, induction over pieces, and what it gives at
+-- once. An edge arrives later than it leaves, repeats with the period, and takes no longer than its span of the longest roads.
 use Prim.Native.Nat.{ℕ, zero, suc, ◌+◌, ◌*◌, ◌%◌, ◌≤◌, ◌<◌}
 use Rattle.std.proofs.Common.{not-suc-le-zero, mod-lt, mul-le-mul_right, add-mul, arith, sym, ◌∙◌}
 use Rattle.std.proofs.Math.Nat.{mul-add-mod_self_right}
