@@ -1,5 +1,5 @@
--- How long a road takes, from its points: document 01, "Travel time". The fraction here has one denominator and no sign; Wording
--- shows it equal to the document's. Everything above uses the laws of RoadLaws and never opens these definitions.
+-- How long a road takes, from its points: document 01, "Travel time". The fraction here has one denominator and no sign;
+-- proofs/Wording shows it equal to the document's. Everything above uses the laws of RoadLaws and never opens these definitions.
 use Rattle.std.specs.Prelude.{ℕ, ◌+◌, ◌-◌, ◌*◌, ◌/◌, ltb}
 use Rattle.block.specs.Choose.{choose}
 use Rattle.travel.specs.Last.{last_le}

@@ -8,7 +8,8 @@ next w even = omega arith
 
 pub returns : goal.returns
 unfolding content_at block_word word_at
-returns c = let v = c.args.v.now in
+returns c =
+    let v = c.args.v.now in
     let w = c.args.w in
     let k = c.block_of in
     let e : 4 * w + 8 * k.result ≡ 4 * (128 * (w / 126) + w % 126) = omega (arith, k.ensures) in

@@ -5,16 +5,18 @@ use Rattle.block.specs.Lanes.{lane_start, lane_next, summed_lanes}
 use Rattle.block.proofs.sums_of.Goals as goal
 
 pub loop-i-init : goal.loop-i-init
-loop-i-init c = let a = c.args in (
-  search rules,
-  lane_start a.v.now a.k 0 _ c.nothing-l0.ensures.0 c.nothing-l0.ensures.1,
-  lane_start a.v.now a.k 1 _ c.nothing-l1.ensures.0 c.nothing-l1.ensures.1,
-  lane_start a.v.now a.k 2 _ c.nothing-l2.ensures.0 c.nothing-l2.ensures.1,
-  lane_start a.v.now a.k 3 _ c.nothing-l3.ensures.0 c.nothing-l3.ensures.1,
-)
+loop-i-init c =
+    let a = c.args in (
+      search rules,
+      lane_start a.v.now a.k 0 _ c.nothing-l0.ensures.0 c.nothing-l0.ensures.1,
+      lane_start a.v.now a.k 1 _ c.nothing-l1.ensures.0 c.nothing-l1.ensures.1,
+      lane_start a.v.now a.k 2 _ c.nothing-l2.ensures.0 c.nothing-l2.ensures.1,
+      lane_start a.v.now a.k 3 _ c.nothing-l3.ensures.0 c.nothing-l3.ensures.1,
+    )
 
 pub loop-i-preserved : goal.loop-i-preserved
-loop-i-preserved c = let a = c.args in
+loop-i-preserved c =
+    let a = c.args in
     let v = a.v.now in
     let i = c.loop-i.i in
     let h = c.loop-i.invariant in (
@@ -27,7 +29,8 @@ loop-i-preserved c = let a = c.args in
 
 pub returns : goal.returns
 unfolding block_word
-returns c = let v = c.args.v.now in
+returns c =
+    let v = c.args.v.now in
     let k = c.args.k in
     let e : c.loop-i.i ≡ 31 = omega arith in
     let h = rw e at c.loop-i.invariant in

@@ -9,7 +9,8 @@ pub returns-then-not-is_whole : goal.returns-then-not-is_whole
 returns-then-not-is_whole c = sym (open_length _ (sym c.is_whole.ensures ∙ c.if-not-is_whole.true))
 
 pub first_bad-bad-requires : goal.first_bad-bad-requires
-first_bad-bad-requires c = let w = whole_fact _ (sym c.is_whole.ensures ∙ c.if-not-is_whole.false) in omega arith
+first_bad-bad-requires c =
+    let w = whole_fact _ (sym c.is_whole.ensures ∙ c.if-not-is_whole.false) in omega arith
 
 pub returns-then-bad-blocks : goal.returns-then-bad-blocks
 returns-then-bad-blocks c =
@@ -17,7 +18,8 @@ returns-then-bad-blocks c =
     sym (open_block c.args.v.now w _ c.first_bad-bad.ensures.0 c.if-bad-blocks.true)
 
 pub content-edition-requires : goal.content-edition-requires
-content-edition-requires c = let w = whole_fact _ (sym c.is_whole.ensures ∙ c.if-not-is_whole.false) in omega arith
+content-edition-requires c =
+    let w = whole_fact _ (sym c.is_whole.ensures ∙ c.if-not-is_whole.false) in omega arith
 
 pub returns-then-edition-ne1 : goal.returns-then-edition-ne1
 unfolding volume_of
