@@ -1,6 +1,6 @@
 -- The first number that fails a test. Every "first fault" of document 01 is one: the first bad block, road, edge, late second.
 -- A loop that counts k up to n has the invariant "the answer from k on is the answer"; the three laws of a turn are here.
-use Rattle.std.specs.Prelude.{◌≡◌, ℕ, zero, suc, ◌+◌, ◌-◌, ◌<◌, ◌≤◌, Bool, true, false, ◌==◌, refl}
+use Rattle.std.specs.Prelude.{◌≡◌, ℕ, zero, suc, ◌+◌, ◌-◌, ◌<◌, ◌≤◌, Bool, true, false, ◌==◌, refl, Option, Some, None}
 use Rattle.std.proofs.Common.{ap, sym, ◌∙◌, arith, add-one, eq-eqb, ne_eqb, eqb-true}
 use Rattle.std.proofs.lemmas.Bool.{false≢true}
 use Rattle.std.proofs.Math.Decide.{dec_lt}
@@ -55,6 +55,28 @@ first_stop p n k lt e h =
 pub first_end : (p : ℕ → Bool) (n k : ℕ) → n ≤ k → Passed p n k → k ≡ first_not p n 0
 unfolding first_not
 first_end p n k le h = let fuel : n - k ≡ 0 = omega arith in ap (λ (m : ℕ). first_not p m k) (sym fuel) ∙ h
+
+-- the first as an option
+
+-- a number that is found below n, or none where it is n
+unfoldable pub below : ℕ → ℕ → Option ℕ
+below n k = choose (k == n) None (Some k)
+
+pub below_some : (n k : ℕ) → k < n → below n k ≡ Some k
+unfolding below
+below_some n k h = choose_no _ _ (ne_eqb k n (λ z. omega arith))
+
+pub below_none : (n k : ℕ) → k ≡ n → below n k ≡ None
+unfolding below
+below_none n k e = choose_yes _ _ (eq-eqb k n e)
+
+-- k fails
+pub found_stop : (p : ℕ → Bool) (n k : ℕ) → k < n → p k ≡ false → Passed p n k → below n (first_not p n 0) ≡ Some k
+found_stop p n k lt e h = rw (sym (first_stop p n k lt e h)) (below_some n k lt)
+
+-- all have passed
+pub found_end : (p : ℕ → Bool) (n k : ℕ) → n ≤ k → k ≤ n → Passed p n k → below n (first_not p n 0) ≡ None
+found_end p n k le ge h = below_none n _ (let q = first_end p n k le h in omega arith)
 
 -- what the first says
 

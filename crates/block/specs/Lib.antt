@@ -4,6 +4,7 @@ pub mod Sums
 pub mod Lanes
 pub mod Good
 pub mod Whole
+pub mod Refusal
 pub mod Seal
 pub mod Choose
 pub mod First

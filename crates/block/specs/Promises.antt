@@ -1,6 +1,6 @@
 -- What sealing promises, in plain words of the definitions of Word, Sums, Good, Whole and Seal. Everything else in this folder
 -- serves these.
-use Rattle.std.specs.Prelude.{◌≡◌, ℕ, ◌+◌, ◌*◌, ◌/◌, ◌%◌, ◌<◌, ◌≤◌, Bool, true, false, ◌≢◌, List, length, slice_index, refl}
+use Rattle.std.specs.Prelude.{◌≡◌, ℕ, ◌+◌, ◌*◌, ◌/◌, ◌%◌, ◌<◌, ◌≤◌, Bool, true, false, ◌≢◌, List, length, slice_index, Result, refl}
 use Rattle.std.proofs.Math.Path.{ap, sym}
 use Rattle.std.proofs.Common.{◌∙◌}
 use Rattle.std.proofs.Math.Logic.{⊎_elim}
@@ -11,7 +11,7 @@ use Rattle.block.specs.Word.{block_word, content_at}
 use Rattle.block.specs.Sums.{check_a, check_b}
 use Rattle.block.specs.Good.{good, Good, good_fact, fact_good}
 use Rattle.block.specs.Whole.{whole, whole_fact}
-use Rattle.block.specs.declared.Sealing.{Sealing}
+use Rattle.block.specs.declared.refusal.Refusal.{Refusal}
 use Rattle.block.specs.Seal.{sealing, sealed, seal_to, sealed_yes, sealed_no}
 use Rattle.block.specs.Store.{Bytes, Written, written_word, word_fits}
 use Rattle.block.specs.Change.{sum_a_fits, sum_b_fits, sum_a_same, sum_b_same, sum_a_shows}
@@ -118,6 +118,6 @@ module _ (v w : List ℕ) (vb : Bytes v) (wb : Bytes w) (k j : ℕ) (few : k < 3
         go false e = e
 
 -- the contract of sealing allows one outcome: one answer, and one list of bytes
-pub one_sealing : (v : List ℕ) (r s : Sealing) (a b : List ℕ) → (r ≡ sealing v) × (a ≡ sealed v) → (s ≡ sealing v) × (b ≡ sealed v)
+pub one_sealing : (v : List ℕ) (r s : Result Unit Refusal) (a b : List ℕ) → (r ≡ sealing v) × (a ≡ sealed v) → (s ≡ sealing v) × (b ≡ sealed v)
     → (r ≡ s) × (a ≡ b)
 one_sealing v r s a b p q = (p.0 ∙ sym q.0, p.1 ∙ sym q.1)

@@ -9,27 +9,19 @@ ghost use Rattle.block.specs.Sums.{Summed, Gained};
 ghost use Rattle.block.specs.Lanes.{Joined};
 ghost use Rattle.block.specs.Whole.{whole};
 ghost use Rattle.block.specs.Seal.{seal_to, sealed, sealing};
+ghost use Rattle.block.specs.First.{below};
 ghost use Rattle.block.specs.Good.{good, first_bad};
 
-use std::num::{wrapping_add_u32, wrapping_sub_u32};
+use crate::refusal::Refusal;
 
-// A byte as a wider number: asks nothing of its caller.
-fn wide(x: u8) -> u32
-    ensures { (result ≡ x) × (result < 256) }
-{
-    x as u32
-}
+pub mod refusal;
 
 // The word that begins at byte `at` of v, least byte first.
 fn word_from(v: &[u8], at: usize) -> u32
     requires { at + 3 < length v.now }
     ensures { result ≡ word_from v.now at }
 {
-    let b0 = wide(v[at]);
-    let b1 = wide(v[at + 1]);
-    let b2 = wide(v[at + 2]);
-    let b3 = wide(v[at + 3]);
-    b0 + 256 * b1 + 65536 * b2 + 16777216 * b3
+    u32::from_le_bytes([v[at], v[at + 1], v[at + 2], v[at + 3]])
 }
 
 // Word i of v.
@@ -82,10 +74,11 @@ pub fn put_word(v: &mut [u8], i: usize, x: u32)
     ensures { v.new ≡ put_word v.old i x }
 {
     let at = 4 * i;
-    v[at] = (x % 256) as u8;
-    v[at + 1] = (x / 256 % 256) as u8;
-    v[at + 2] = (x / 65536 % 256) as u8;
-    v[at + 3] = (x / 16777216 % 256) as u8;
+    let [b0, b1, b2, b3] = x.to_le_bytes();
+    v[at] = b0;
+    v[at + 1] = b1;
+    v[at + 2] = b2;
+    v[at + 3] = b3;
 }
 
 #[derive(Clone, Copy)]
@@ -105,8 +98,8 @@ fn nothing() -> Sums
 fn gain(s: Sums, x: u32) -> Sums
     ensures { Gained s x result }
 {
-    let a = wrapping_add_u32(s.a, x);
-    let b = wrapping_add_u32(s.b, a);
+    let a = s.a.wrapping_add(x);
+    let b = s.b.wrapping_add(a);
     Sums { a, b }
 }
 
@@ -117,14 +110,17 @@ fn join(k: usize, l0: Sums, l1: Sums, l2: Sums, l3: Sums) -> Sums
     ensures { Joined k l0 l1 l2 l3 result }
 {
     let behind = gain(gain(gain(nothing(), l3.a), l2.a), l1.a);
-    let once = wrapping_add_u32(wrapping_add_u32(l0.b, l1.b), wrapping_add_u32(l2.b, l3.b));
-    let twice = wrapping_add_u32(once, once);
-    let a = wrapping_add_u32(l0.a, behind.a);
-    let b = wrapping_sub_u32(wrapping_add_u32(twice, twice), behind.b);
+    let once = l0
+        .b
+        .wrapping_add(l1.b)
+        .wrapping_add(l2.b.wrapping_add(l3.b));
+    let twice = once.wrapping_add(once);
+    let a = l0.a.wrapping_add(behind.a);
+    let b = twice.wrapping_add(twice).wrapping_sub(behind.b);
     let first = k as u32 + 1;
     Sums {
-        a: wrapping_add_u32(first, a),
-        b: wrapping_add_u32(124 * first, b),
+        a: first.wrapping_add(a),
+        b: (124 * first).wrapping_add(b),
     }
 }
 
@@ -139,14 +135,12 @@ fn sums_of(v: &[u8], k: usize) -> Sums
     let mut l1 = nothing();
     let mut l2 = nothing();
     let mut l3 = nothing();
-    let mut i: usize = 0;
-    while i < 31 {
+    for i in 0..31 {
         let at = 128 * k + 4 * i;
         l0 = gain(l0, word(v, at));
         l1 = gain(l1, word(v, at + 1));
         l2 = gain(l2, word(v, at + 2));
         l3 = gain(l3, word(v, at + 3));
-        i += 1;
     }
     let x = word(v, 128 * k + 124);
     let y = word(v, 128 * k + 125);
@@ -157,18 +151,7 @@ fn sums_of(v: &[u8], k: usize) -> Sums
 pub fn is_whole(n: usize) -> bool
     ensures { result ≡ whole n }
 {
-    if n % 512 == 0 {
-        if 512 <= n {
-            return n <= 1731072;
-        }
-    }
-    false
-}
-
-#[derive(Clone, Copy)]
-pub enum Sealing {
-    Sealed,
-    Refused(u32, u64),
+    n % 512 == 0 && (512 <= n && n <= 1731072)
 }
 
 // Writes A and B of the first n blocks.
@@ -176,27 +159,25 @@ fn seal_blocks(v: &mut [u8], n: usize)
     requires { (512 * n ≤ length v.old) × (n ≤ 3381) }
     ensures { v.new ≡ seal_to v.old n }
 {
-    let mut k: usize = 0;
-    while k < n {
+    for k in 0..n {
         let s = sums_of(v, k);
         let a = s.a;
         let b = s.b;
         put_word(v, 128 * k + 126, a);
         put_word(v, 128 * k + 127, b);
-        k += 1;
     }
 }
 
 // Seals a volume: writes A and B of every block and no other byte, or refuses and writes nothing.
-pub fn seal(v: &mut [u8]) -> Sealing
+pub fn seal(v: &mut [u8]) -> Result<(), Refusal>
     ensures { (result ≡ sealing v.old) × (v.new ≡ sealed v.old) }
 {
     let n = v.len();
     if is_whole(n) {
         seal_blocks(v, n / 512);
-        return Sealing::Sealed;
+        return Ok(());
     }
-    Sealing::Refused(1, 0)
+    Err(Refusal::Length)
 }
 
 // Does block k carry its sums s?
@@ -205,23 +186,18 @@ fn carries(v: &[u8], k: usize, s: Sums) -> bool
     requires summed { Summed v.now k s }
     ensures { result ≡ good v.now k }
 {
-    if s.a != word(v, 128 * k + 126) {
-        return false;
-    }
-    s.b == word(v, 128 * k + 127)
+    s.a == word(v, 128 * k + 126) && s.b == word(v, 128 * k + 127)
 }
 
-// The first of the n blocks of v whose A or B differs from what stands there, or n.
-pub fn first_bad(v: &[u8], n: usize) -> usize
+// The first of the n blocks of v whose A or B differs from what stands there.
+pub fn first_bad(v: &[u8], n: usize) -> Option<usize>
     requires { (512 * n ≤ length v.now) × (n ≤ 3381) }
-    ensures { (result ≡ first_bad v.now n) × (result ≤ n) }
+    ensures { result ≡ below n (first_bad v.now n) }
 {
-    let mut k: usize = 0;
-    while k < n {
+    for k in 0..n {
         if !carries(v, k, sums_of(v, k)) {
-            return k;
+            return Some(k);
         }
-        k += 1;
     }
-    k
+    None
 }

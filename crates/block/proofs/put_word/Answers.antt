@@ -4,4 +4,4 @@ use Rattle.block.proofs.put_word.Goals as goal
 
 pub returns : goal.returns
 unfolding put_word
-returns c = refl
+returns c = rw c.to_le_bytes.ensures refl

@@ -4,4 +4,4 @@ use Rattle.block.proofs.word_from.Goals as goal
 
 pub returns : goal.returns
 unfolding word_from
-returns c = omega arith
+returns c = omega (arith, c.from_le_bytes.ensures)
