@@ -1,12 +1,16 @@
 -- What the content words of a volume mean: the head, the roads, the points, the edges and the pieces, as plain functions of a
 -- number. The rules and everything above speak of this record and never of bytes. The sizes of the records and the period stand
 -- here alone.
-use Rattle.std.specs.Prelude.{ℕ, ◌+◌, ◌*◌, ◌/◌, ◌^◌, ◌≤◌, ◌<◌, ◌≡◌, refl, List, length}
+use Rattle.std.specs.Prelude.{ℕ, ◌+◌, ◌*◌, ◌/◌, ◌^◌, ◌≤◌, ◌<◌, ◌≡◌, ◌≢◌, refl, List, length}
 use Rattle.block.specs.Word.{content_at, most_words}
 use Rattle.records.specs.declared.tables.Counts.{Counts}
 use Rattle.records.specs.declared.tables.Tables.{Tables}
 use Rattle.records.specs.declared.tables.Road.{Road}
 use Rattle.records.specs.declared.tables.Point.{Point}
+use Rattle.records.specs.declared.tables.Edge.{Edge}
+use Rattle.records.specs.declared.tables.Way.{Way}
+use Rattle.records.specs.declared.tables.Way.TheVariants.{Road as ByRoad, Turn}
+use Rattle.records.specs.declared.tables.Piece.{Piece}
 
 -- the seconds of a day
 abbrev pub day : ℕ
@@ -159,6 +163,34 @@ pub record IsPoint (vol : Volume) (i : ℕ) (q : Point) : Type 0 where
   pub duration : q.duration ≡ vol.point_duration i
   pub second_fits : q.second < 2 ^ 32
   pub duration_fits : q.duration < 2 ^ 32
+
+-- q is edge e
+pub record IsEdge (vol : Volume) (e : ℕ) (q : Edge) : Type 0 where
+  pub from : q.from ≡ vol.edge_from e
+  pub to : q.to ≡ vol.edge_to e
+  pub first : q.first ≡ vol.edge_first e
+  pub pieces : q.pieces ≡ vol.edge_pieces e
+  pub span : q.span ≡ vol.edge_span e
+  pub from_fits : q.from < 2 ^ 32
+  pub to_fits : q.to < 2 ^ 32
+  pub first_fits : q.first < 2 ^ 32
+  pub pieces_fit : q.pieces < 2 ^ 32
+  pub span_fits : q.span < 2 ^ 32
+
+-- the right of a piece with an empty middle
+abbrev pub empty : ℕ
+empty = 4294967295
+
+-- how a piece with that left and right goes: with an empty middle by the road `left`, otherwise by two edges in turn
+abbrev pub IsWay : ℕ → ℕ → Way → Type 0
+IsWay left right (ByRoad k) = (right ≡ empty) × (k ≡ left) × (k < 2 ^ 32)
+IsWay left right (Turn l r) = (right ≢ empty) × (l ≡ left) × (r ≡ right) × (l < 2 ^ 32) × (r < 2 ^ 32)
+
+-- q is piece p
+pub record IsPiece (vol : Volume) (p : ℕ) (q : Piece) : Type 0 where
+  pub start : q.start ≡ vol.piece_start p
+  pub start_fits : q.start < 2 ^ 32
+  pub way : IsWay (vol.piece_left p) (vol.piece_right p) q.way
 
 -- a volume repeats every day
 pub period_is : (v : List ℕ) → (volume_of v).period ≡ day

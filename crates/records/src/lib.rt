@@ -4,4 +4,5 @@
 #![tactic(auto)]
 
 pub mod index;
+pub mod readers;
 pub mod tables;

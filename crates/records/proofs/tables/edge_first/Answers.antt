@@ -1,7 +1,0 @@
-use borrow.Author.Rules.{rules}
-use Rattle.records.specs.Format.{volume_of}
-use Rattle.records.proofs.tables.edge_first.Goals as goal
-
-pub returns : goal.returns
-unfolding volume_of
-returns c = ((cc), search rules)
