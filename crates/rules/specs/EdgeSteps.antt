@@ -1,25 +1,23 @@
 -- What the pass over the edges learns from the words that it reads: of the earlier edges, of a piece, of its start, of an edge. The
 -- span is carried along: `piece_fit` and `pieces_fit` are what the code's two passes over pieces answer.
-use Rattle.std.specs.Prelude.{ℕ, ◌+◌, ◌-◌, ◌≤◌, ◌<◌, max, ◌≡◌, refl, ◌≢◌, Bool, true, false, not, eqb, leb, ltb}
+use Rattle.std.specs.Prelude.{ℕ, ◌+◌, ◌-◌, ◌≤◌, ◌<◌, max, ◌≡◌, refl, ◌≢◌, Bool, true, false, not, eqb, leb, ltb, Option, Some, None}
 use Rattle.std.proofs.Common.{sym, ◌∙◌, ap, arith, add-one, eq-eqb, ne_eqb, eqb-true, leb-true, lt-ltb, ltb-true}
 use Rattle.std.proofs.Math.Path.{ap₂}
 use Rattle.std.proofs.Math.Decide.{ℕ_discrete}
 use Rattle.block.specs.Choose.{choose, choose_yes, choose_no, both, both_yes, both_no, both_left, both_right}
 use Rattle.block.specs.First.{all_below, all_fails, below_all}
-use Rattle.records.specs.Format.{Volume, day}
-use Rattle.rules.specs.Rules.{ends_fit, placed, begins, edge_rule, span_rule, most_span, piece_fits, piece_span, piece_rule, greatest_span, new_ends, same_ends, start_fits, start, empty, road_joins, pair_joins}
+use Rattle.records.specs.Format.{Volume, day, empty}
+use Rattle.rules.specs.Rules.{ends_fit, placed, begins, edge_rule, span_rule, most_span, piece_fits, piece_span, piece_rule, greatest_span, new_ends, same_ends, start_fits, start, road_joins, pair_joins}
 use Rattle.rules.specs.Facts.{placed_fact, begins_next}
-use Rattle.rules.specs.declared.edges.Fit.{Fit}
-use Rattle.rules.specs.declared.edges.Fit.TheVariants.{Span, Fault as FitFault}
 
 -- the span of piece p of edge e, where it fits
-abbrev pub piece_fit : Volume → ℕ → ℕ → Fit
-piece_fit vol e p = choose (piece_fits vol e p) (Span (piece_span vol p)) FitFault
+abbrev pub piece_fit : Volume → ℕ → ℕ → Option ℕ
+piece_fit vol e p = choose (piece_fits vol e p) (Some (piece_span vol p)) None
 
 -- the greatest span of the pieces of edge e, where they all obey
-abbrev pub pieces_fit : Volume → ℕ → Fit
+abbrev pub pieces_fit : Volume → ℕ → Option ℕ
 pieces_fit vol e =
-    choose (all_below (vol.edge_pieces e) (piece_rule vol e)) (Span (greatest_span vol (vol.edge_first e) (vol.edge_pieces e))) FitFault
+    choose (all_below (vol.edge_pieces e) (piece_rule vol e)) (Some (greatest_span vol (vol.edge_first e) (vol.edge_pieces e))) None
 
 -- one piece more
 pub greatest_next : (vol : Volume) (p n : ℕ) → greatest_span vol p (n + 1) ≡ max (greatest_span vol p n) (piece_span vol (p + n))
@@ -75,12 +73,12 @@ start_rule vol e i b s p h g = go (ℕ_discrete i 0)
 
 -- what a fit says
 
-pub fit_span : (t : Bool) (x s : ℕ) → Span s ≡ choose t (Span x) FitFault → (t ≡ true) × (s ≡ x)
+pub fit_span : (t : Bool) (x s : ℕ) → Some s ≡ choose t (Some x) None → (t ≡ true) × (s ≡ x)
 unfolding choose
 fit_span true x s h = (refl, (cc))
 fit_span false x s h = absurd (let z : ◌≡◌ {A = ℕ} 0 1 = (cc) in omega arith)
 
-pub fit_fault : (t : Bool) (x : ℕ) → FitFault ≡ choose t (Span x) FitFault → t ≡ false
+pub fit_fault : (t : Bool) (x : ℕ) → None ≡ choose t (Some x) None → t ≡ false
 unfolding choose
 fit_fault true x h = absurd (let z : ◌≡◌ {A = ℕ} 0 1 = (cc) in omega arith)
 fit_fault false x h = refl
@@ -90,18 +88,18 @@ fit_fault false x h = refl
 module _ (vol : Volume) (e p from to left right : ℕ) (hf : from ≡ vol.edge_from e) (ht : to ≡ vol.edge_to e)
     (hl : left ≡ vol.piece_left p) (hr : right ≡ vol.piece_right p)
   where
-    pub fit_road : right ≡ empty → {t : Bool} → road_joins vol left from to ≡ t → piece_fit vol e p ≡ choose t (Span 1) FitFault
+    pub fit_road : right ≡ empty → {t : Bool} → road_joins vol left from to ≡ t → piece_fit vol e p ≡ choose t (Some 1) None
     unfolding piece_fits piece_span
     fit_road z {t} q =
-        ap₂ (λ (b : Bool) (n : ℕ). choose b (Span n) FitFault)
+        ap₂ (λ (b : Bool) (n : ℕ). choose b (Some n) None)
         (choose_yes _ _ (eq-eqb _ _ (sym hr ∙ z)) ∙ (let i : road_joins vol (vol.piece_left p) (vol.edge_from e) (vol.edge_to e) ≡ t = (cc) in i))
         (choose_yes _ _ (eq-eqb _ _ (sym hr ∙ z)))
 
     pub fit_pair : right ≢ empty → {t : Bool} → pair_joins vol e left right from to ≡ t → (a b : ℕ) → a ≡ vol.edge_span left
-        → b ≡ vol.edge_span right → piece_fit vol e p ≡ choose t (Span (a + b)) FitFault
+        → b ≡ vol.edge_span right → piece_fit vol e p ≡ choose t (Some (a + b)) None
     unfolding piece_fits piece_span
     fit_pair ne {t} q a b ha hb =
-        ap₂ (λ (b : Bool) (n : ℕ). choose b (Span n) FitFault)
+        ap₂ (λ (b : Bool) (n : ℕ). choose b (Some n) None)
         (choose_no _ _ (ne_eqb _ _ (λ z. ne (hr ∙ z)))
         ∙ (let i : pair_joins vol e (vol.piece_left p) (vol.piece_right p) (vol.edge_from e) (vol.edge_to e) ≡ t = (cc) in i))
         (choose_no _ _ (ne_eqb _ _ (λ z. ne (hr ∙ z))) ∙ (let i : vol.edge_span (vol.piece_left p) + vol.edge_span (vol.piece_right p) ≡ a + b = (cc) in i))
@@ -127,12 +125,12 @@ module _ (vol : Volume) (e i b s : ℕ) (p : vol.period ≡ day) (hb : 0 < i →
 
 -- how the pass over an edge's pieces ends
 
-pub pieces_fault : (vol : Volume) (e : ℕ) → all_below (vol.edge_pieces e) (piece_rule vol e) ≡ false → pieces_fit vol e ≡ FitFault
+pub pieces_fault : (vol : Volume) (e : ℕ) → all_below (vol.edge_pieces e) (piece_rule vol e) ≡ false → pieces_fit vol e ≡ None
 pieces_fault vol e q = choose_no _ _ q
 
 pub pieces_fine : (vol : Volume) (e g : ℕ) → all_below (vol.edge_pieces e) (piece_rule vol e) ≡ true
-    → g ≡ greatest_span vol (vol.edge_first e) (vol.edge_pieces e) → pieces_fit vol e ≡ Span g
-pieces_fine vol e g q h = choose_yes _ _ q ∙ ap Span (sym h)
+    → g ≡ greatest_span vol (vol.edge_first e) (vol.edge_pieces e) → pieces_fit vol e ≡ Some g
+pieces_fine vol e g q h = choose_yes _ _ q ∙ ap Some (sym h)
 
 -- what the pass asks of an edge, from the words that it reads
 pub edge_rule_lem : (vol : Volume) (e from to at n begin : ℕ) → from ≡ vol.edge_from e → to ≡ vol.edge_to e → at ≡ vol.edge_first e

@@ -4,7 +4,7 @@ use Rattle.std.specs.Prelude.{ℕ, zero, suc, ◌+◌, ◌-◌, ◌*◌, ◌/◌
 use Rattle.block.specs.Choose.{choose, both}
 use Rattle.block.specs.First.{first_not, all_below}
 use Rattle.block.specs.Word.{content_at}
-use Rattle.records.specs.Format.{Volume, words_of, counts_of}
+use Rattle.records.specs.Format.{Volume, words_of, counts_of, empty}
 use Rattle.records.specs.declared.tables.Counts.{Counts}
 
 -- the longest duration of a point
@@ -14,10 +14,6 @@ longest = 86400
 -- the greatest span of an edge
 abbrev pub most_span : ℕ
 most_span = 4096
-
--- the right of a piece with an empty middle
-abbrev pub empty : ℕ
-empty = 4294967295
 
 -- the head
 

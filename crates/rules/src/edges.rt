@@ -1,40 +1,26 @@
 // The edge rules.
-ghost use Rattle.std.specs.Prelude.{◌≡◌, ◌+◌, ◌≤◌, ◌<◌, max};
-ghost use Rattle.records.specs.Format.{volume_of, Counted, Laid, day};
+ghost use Rattle.std.specs.Prelude.{◌≡◌, ◌+◌, ◌≤◌, ◌<◌};
+ghost use Rattle.records.specs.Format.{volume_of, day};
 ghost use Rattle.rules.specs.Rules.{begins, road_joins, meet, pair_joins, start_fits, edge_rule};
 ghost use Rattle.rules.specs.EdgeSteps.{piece_fit, pieces_fit, Fresh};
 ghost use Rattle.rules.specs.Kept.{Kept};
 
 use crate::kept::{END, SPAN, START, kept_part};
 use crate::roads::{ends_fit, is_placed};
-use records::tables::{
-    Counts, EMPTY, PERIOD, Tables, edge_first, edge_from, edge_pieces, edge_span, edge_to,
-    piece_left, piece_right, piece_start, road_at,
-};
+use records::readers::Records;
+use records::tables::{PERIOD, Way};
 
 const MOST_SPAN: usize = 4096;
 
-// The span of a piece or of all pieces of an edge, or that one breaks a rule.
-#[derive(Clone, Copy)]
-pub enum Fit {
-    Span(usize),
-    Fault,
-}
-
 // Is k a road from `from` to `to`?
-fn road_joins(v: &[u8], t: Tables, roads: usize, k: usize, from: usize, to: usize) -> bool
-    requires laid { Laid v.now t }
-    requires roads_value { roads ≡ (volume_of v.now).roads }
-    ensures { result ≡ road_joins (volume_of v.now) k from to }
+fn road_joins(r: &Records<'_>, k: usize, from: usize, to: usize) -> bool
+    ensures { result ≡ road_joins (volume_of r.now.bytes.now) k from to }
 {
-    if roads <= k {
+    if r.counts.roads <= k {
         return false;
     }
-    let road = road_at(v, t, k);
-    if road.from != from {
-        return false;
-    }
-    road.to == to
+    let road = r.road(k);
+    road.from == from && road.to == to
 }
 
 // Do an edge from l0 to l1 and one from r0 to r1 lead in turn from `from` to `to`, and meet below both?
@@ -72,35 +58,30 @@ fn pair_joins(v: &[u8], kept: &[u16], e: usize, l: usize, r: usize, from: usize,
     do_meet(l0, l1, r0, r1, from, to)
 }
 
-// The span of piece p of edge e, which leads from `from` to `to`.
+// The span of piece p of edge e, which leads from `from` to `to`, if it fits.
 fn piece_fit(
-    v: &[u8],
-    t: Tables,
+    r: &Records<'_>,
     kept: &[u16],
-    roads: usize,
     e: usize,
     p: usize,
     from: usize,
     to: usize,
-) -> Fit
-    requires laid { Laid v.now t }
-    requires kept { Kept (volume_of v.now) e kept.now }
-    requires roads_value { (roads ≡ (volume_of v.now).roads) × (p < (volume_of v.now).pieces) }
-    requires from_value { (from ≡ (volume_of v.now).edge_from e) × (to ≡ (volume_of v.now).edge_to e) }
-    ensures { result ≡ piece_fit (volume_of v.now) e p }
+) -> Option<usize>
+    requires kept { Kept (volume_of r.now.bytes.now) e kept.now }
+    requires p_bound { p < (volume_of r.now.bytes.now).pieces }
+    requires from_value { (from ≡ (volume_of r.now.bytes.now).edge_from e) × (to ≡ (volume_of r.now.bytes.now).edge_to e) }
+    ensures { result ≡ piece_fit (volume_of r.now.bytes.now) e p }
 {
-    let left = piece_left(v, t, p);
-    let right = piece_right(v, t, p);
-    if right == EMPTY {
-        if road_joins(v, t, roads, left, from, to) {
-            return Fit::Span(1);
+    match r.piece(p).way {
+        Way::Road(k) => road_joins(r, k, from, to).then_some(1),
+        Way::Turn(left, right) => {
+            if pair_joins(r.bytes, kept, e, left, right, from, to) {
+                Some(kept_part(kept, left, SPAN) + kept_part(kept, right, SPAN))
+            } else {
+                None
+            }
         }
-        return Fit::Fault;
     }
-    if pair_joins(v, kept, e, left, right, from, to) {
-        return Fit::Span(kept_part(kept, left, SPAN) + kept_part(kept, right, SPAN));
-    }
-    Fit::Fault
 }
 
 // Does piece i start when it must, where the piece before it starts at `before`?
@@ -116,77 +97,45 @@ fn start_fits(i: usize, before: u64, start: u64) -> bool
     start < PERIOD
 }
 
-fn greater(a: usize, b: usize) -> usize
-    ensures { result ≡ max a b }
+// The greatest span of the pieces of edge e, if they all fit.
+fn pieces_fit(r: &Records<'_>, kept: &[u16], e: usize) -> Option<usize>
+    requires kept { Kept (volume_of r.now.bytes.now) e kept.now }
+    requires e_bound { (e < (volume_of r.now.bytes.now).edges) × ((volume_of r.now.bytes.now).edge_first e + (volume_of r.now.bytes.now).edge_pieces e ≤ (volume_of r.now.bytes.now).pieces) }
+    ensures { result ≡ pieces_fit (volume_of r.now.bytes.now) e }
 {
-    if a < b {
-        return b;
-    }
-    a
-}
-
-// The greatest span of the n pieces of edge e, which begin at `first`.
-fn pieces_fit(
-    v: &[u8],
-    t: Tables,
-    kept: &[u16],
-    roads: usize,
-    e: usize,
-    first: usize,
-    n: usize,
-) -> Fit
-    requires laid { Laid v.now t }
-    requires kept { Kept (volume_of v.now) e kept.now }
-    requires roads_value { (roads ≡ (volume_of v.now).roads) × (e < (volume_of v.now).edges) × (first + n ≤ (volume_of v.now).pieces) }
-    requires first_value { (first ≡ (volume_of v.now).edge_first e) × (n ≡ (volume_of v.now).edge_pieces e) }
-    ensures { result ≡ pieces_fit (volume_of v.now) e }
-{
-    let from = edge_from(v, t, e);
-    let to = edge_to(v, t, e);
+    let edge = r.edge(e);
     let mut greatest: usize = 0;
     let mut before: u64 = 0;
-    let mut i: usize = 0;
-    while i < n {
-        let start = piece_start(v, t, first + i);
+    for i in 0..edge.pieces {
+        let p = edge.first + i;
+        let start = r.piece(p).start;
         if !start_fits(i, before, start) {
-            return Fit::Fault;
+            return None;
         }
-        let Fit::Span(span) = piece_fit(v, t, kept, roads, e, first + i, from, to) else {
-            return Fit::Fault;
-        };
-        greatest = greater(greatest, span);
+        let span = piece_fit(r, kept, e, p, edge.from, edge.to)?;
+        greatest = greatest.max(span);
         before = start;
-        i += 1;
     }
-    Fit::Span(greatest)
+    Some(greatest)
 }
 
 // Does edge e obey, where no earlier edge has its ends? Its pieces are to begin at `begin`.
-pub fn edge_fits(v: &[u8], t: Tables, kept: &[u16], c: Counts, e: usize, begin: usize) -> bool
-    requires laid { Laid v.now t }
-    requires kept { Kept (volume_of v.now) e kept.now }
-    requires counted { Counted (volume_of v.now) c }
-    requires e_bound { e < (volume_of v.now).edges }
-    requires fresh { Fresh (volume_of v.now) e }
-    requires begin_value { begin ≡ begins (volume_of v.now).edge_first (volume_of v.now).edge_pieces e }
-    ensures { result ≡ edge_rule (volume_of v.now) e }
+pub fn edge_fits(r: &Records<'_>, kept: &[u16], e: usize, begin: usize) -> bool
+    requires kept { Kept (volume_of r.now.bytes.now) e kept.now }
+    requires e_bound { e < (volume_of r.now.bytes.now).edges }
+    requires fresh { Fresh (volume_of r.now.bytes.now) e }
+    requires begin_value { begin ≡ begins (volume_of r.now.bytes.now).edge_first (volume_of r.now.bytes.now).edge_pieces e }
+    ensures { result ≡ edge_rule (volume_of r.now.bytes.now) e }
 {
-    let from = edge_from(v, t, e);
-    let to = edge_to(v, t, e);
-    if !ends_fit(c.junctions, from, to) {
+    let edge = r.edge(e);
+    if !ends_fit(r.counts.junctions, edge.from, edge.to) {
         return false;
     }
-    let at = edge_first(v, t, e);
-    let n = edge_pieces(v, t, e);
-    if !is_placed(begin, c.pieces, at, n) {
+    if !is_placed(begin, r.counts.pieces, edge.first, edge.pieces) {
         return false;
     }
-    let Fit::Span(greatest) = pieces_fit(v, t, kept, c.roads, e, at, n) else {
+    let Some(greatest) = pieces_fit(r, kept, e) else {
         return false;
     };
-    let span = edge_span(v, t, e);
-    if span != greatest {
-        return false;
-    }
-    span <= MOST_SPAN
+    edge.span == greatest && edge.span <= MOST_SPAN
 }

@@ -1,10 +1,10 @@
 // What the pass over the edges keeps of those that have passed: start, end and span. A pair asks them of its two edges, and reading
 // them from a short list is much cheaper than from the sealed words.
 ghost use Rattle.std.specs.Prelude.{◌≡◌, ◌+◌, ◌*◌, ◌^◌, ◌<◌, length, get_or};
-ghost use Rattle.records.specs.Format.{volume_of, Laid};
+ghost use Rattle.records.specs.Format.{volume_of};
 ghost use Rattle.rules.specs.Kept.{keeping, Short};
 
-use records::tables::{Tables, edge_from, edge_span, edge_to};
+use records::readers::Records;
 
 // The numbers kept of an edge, and how many there are.
 pub const START: usize = 0;
@@ -24,17 +24,14 @@ pub fn kept_part(kept: &[u16], d: usize, i: usize) -> usize
 }
 
 // Keeps edge e.
-pub fn keep(v: &[u8], t: Tables, kept: &mut [u16], e: usize)
-    requires laid { Laid v.now t }
-    requires e_bound { e < (volume_of v.now).edges }
-    requires short { Short (volume_of v.now) e }
+pub fn keep(r: &Records<'_>, kept: &mut [u16], e: usize)
+    requires e_bound { e < (volume_of r.now.bytes.now).edges }
+    requires short { Short (volume_of r.now.bytes.now) e }
     requires e_in_bounds { 3 * e + 2 < length kept.old }
-    ensures { kept.new ≡ keeping (volume_of v.now) e kept.old }
+    ensures { kept.new ≡ keeping (volume_of r.now.bytes.now) e kept.old }
 {
-    let from = edge_from(v, t, e);
-    let to = edge_to(v, t, e);
-    let span = edge_span(v, t, e);
-    kept[PARTS * e + START] = from as u16;
-    kept[PARTS * e + END] = to as u16;
-    kept[PARTS * e + SPAN] = span as u16;
+    let edge = r.edge(e);
+    kept[PARTS * e + START] = edge.from as u16;
+    kept[PARTS * e + END] = edge.to as u16;
+    kept[PARTS * e + SPAN] = edge.span as u16;
 }

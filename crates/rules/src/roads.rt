@@ -1,10 +1,11 @@
 // The road rules.
 ghost use Rattle.std.specs.Prelude.{◌≡◌, ◌+◌, ◌^◌, ◌≤◌, ◌<◌};
 ghost use Rattle.block.specs.First.{all_below};
-ghost use Rattle.records.specs.Format.{volume_of, Counted, Laid, day};
+ghost use Rattle.records.specs.Format.{volume_of, day};
 ghost use Rattle.rules.specs.Rules.{ends_fit, placed, begins, point_fits, point_rule, road_rule};
 
-use records::tables::{Counts, PERIOD, Tables, point_at, road_at};
+use records::readers::Records;
+use records::tables::PERIOD;
 
 const LONGEST: u64 = 86400;
 
@@ -12,12 +13,7 @@ const LONGEST: u64 = 86400;
 pub fn ends_fit(n: usize, from: usize, to: usize) -> bool
     ensures { result ≡ ends_fit n from to }
 {
-    if from != to {
-        if from < n {
-            return to < n;
-        }
-    }
-    false
+    from != to && (from < n && to < n)
 }
 
 // Do the parts of a record begin at `begin` and lie inside the table?
@@ -51,37 +47,32 @@ fn point_fits(t0: u64, f0: u64, t1: u64, f1: u64) -> bool
 }
 
 // Do the n points from `first` on obey? Each fits before the next one, and the last before the first of the next period.
-fn points_fit(v: &[u8], t: Tables, first: usize, n: usize) -> bool
-    requires laid { Laid v.now t }
-    requires le_n { (1 ≤ n) × (first + n ≤ (volume_of v.now).points) × (first < 2 ^ 32) × (n < 2 ^ 32) }
-    ensures { result ≡ all_below n (point_rule (volume_of v.now) first n) }
+fn points_fit(r: &Records<'_>, first: usize, n: usize) -> bool
+    requires { (1 ≤ n) × (first + n ≤ (volume_of r.now.bytes.now).points) × (first < 2 ^ 32) × (n < 2 ^ 32) }
+    ensures { result ≡ all_below n (point_rule (volume_of r.now.bytes.now) first n) }
 {
-    let mut a = point_at(v, t, first);
-    let mut i: usize = 0;
-    while i + 1 < n {
-        let b = point_at(v, t, first + (i + 1));
+    let mut a = r.point(first);
+    for i in 0..n - 1 {
+        let b = r.point(first + (i + 1));
         if !point_fits(a.second, a.duration, b.second, b.duration) {
             return false;
         }
         a = b;
-        i += 1;
     }
-    let again = point_at(v, t, first);
+    let again = r.point(first);
     point_fits(a.second, a.duration, again.second + PERIOD, again.duration)
 }
 
 // Does road k obey? Its points are to begin at `begin`.
-pub fn road_fits(v: &[u8], t: Tables, c: Counts, k: usize, begin: usize) -> bool
-    requires laid { Laid v.now t }
-    requires counted { Counted (volume_of v.now) c }
-    requires k_bound { k < (volume_of v.now).roads }
-    requires begin_value { begin ≡ begins (volume_of v.now).road_first (volume_of v.now).road_points k }
-    ensures { result ≡ road_rule (volume_of v.now) k }
+pub fn road_fits(r: &Records<'_>, k: usize, begin: usize) -> bool
+    requires k_bound { k < (volume_of r.now.bytes.now).roads }
+    requires begin_value { begin ≡ begins (volume_of r.now.bytes.now).road_first (volume_of r.now.bytes.now).road_points k }
+    ensures { result ≡ road_rule (volume_of r.now.bytes.now) k }
 {
-    let road = road_at(v, t, k);
-    if ends_fit(c.junctions, road.from, road.to) {
-        if is_placed(begin, c.points, road.first, road.points) {
-            return points_fit(v, t, road.first, road.points);
+    let road = r.road(k);
+    if ends_fit(r.counts.junctions, road.from, road.to) {
+        if is_placed(begin, r.counts.points, road.first, road.points) {
+            return points_fit(r, road.first, road.points);
         }
     }
     false

@@ -1,71 +1,90 @@
-use mathlib.Core.Path.{refl, sym, ◌∙◌}
-use native.Mathlib.Omega.{arith}
-use borrow.Author.Tests.{eq-eqb, ne_eqb}
+use Rattle.std.proofs.Common.{ℕ, ◌≡◌, sym, ◌∙◌, arith, ne_eqb, eq-eqb}
+use Rattle.block.specs.Choose.{both, both_yes, both_no}
+use Rattle.block.specs.First.{all_below}
+use Rattle.records.specs.Format.{Volume, volume_of, Counted, IsEdge}
+use Rattle.records.specs.declared.tables.Counts.{Counts}
+use Rattle.records.specs.declared.tables.Edge.{Edge}
+use Rattle.rules.specs.Rules.{ends_fit, placed, begins, new_ends, piece_rule, span_rule, edge_rule}
 use Rattle.rules.specs.EdgeSteps.{edge_rule_lem, span_rule_lem, fit_span, fit_fault}
-use Rattle.rules.specs.Facts.{ends_fact, ends_counted, placed_fact, placed_counted}
-use Rattle.records.specs.Format.{volume_of}
-use Rattle.block.specs.Choose.{both_yes, both_no}
+use Rattle.rules.specs.Facts.{ends_fact, placed_fact}
 use Rattle.rules.proofs.edges.edge_fits.Goals as goal
+
+-- the rule of an edge, by what is read of it and of the head
+rule : (vol : Volume) (c : Counts) (e begin : ℕ) (q : Edge) → Counted vol c → IsEdge vol e q → begin ≡ begins vol.edge_first vol.edge_pieces e
+    → edge_rule vol e
+    ≡ both (ends_fit c.junctions q.from q.to)
+    (both (new_ends vol e)
+    (both (placed begin c.pieces q.first q.pieces) (both (all_below (vol.edge_pieces e) (piece_rule vol e)) (span_rule vol e))))
+rule vol c e begin q n i h =
+    rw (n.junctions, n.pieces) (edge_rule_lem vol e q.from q.to q.first q.pieces begin i.from i.to i.first i.pieces h)
 
 pub returns-then-not-ends_fit : goal.returns-then-not-ends_fit
 returns-then-not-ends_fit c =
-    sym (edge_rule_lem (volume_of c.args.v.now) c.args.e _ _ _ _ _ c.edge_from-from.ensures.0 c.edge_to-to.ensures.0 refl refl c.requires.begin_value
-    ∙ both_no _ (ends_counted _ _ _ _ c.requires.counted.junctions (sym c.ends_fit.ensures ∙ c.if-not-ends_fit.true)))
+    let r = c.args.r.now in
+    sym
+    (rule (volume_of r.bytes.now) r.counts c.args.e c.args.begin _ r.counted c.edge-edge.ensures c.requires.begin_value
+    ∙ both_no _ (sym c.ends_fit.ensures ∙ c.if-not-ends_fit.true))
 
 pub returns-then-not-is_placed : goal.returns-then-not-is_placed
 returns-then-not-is_placed c =
+    let r = c.args.r.now in
     let fit = ends_fact _ _ _ (sym c.ends_fit.ensures ∙ c.if-not-ends_fit.false) in
-    let j = c.requires.counted.junctions in
-    let f = c.edge_from-from.ensures.0 in
-    let g = c.edge_to-to.ensures.0 in
-    sym (edge_rule_lem (volume_of c.args.v.now) c.args.e _ _ _ _ _ c.edge_from-from.ensures.0 c.edge_to-to.ensures.0 c.edge_first-at.ensures.0 c.edge_pieces-n.ensures.0 c.requires.begin_value
-    ∙ both_yes _ (ends_counted _ _ _ _ c.requires.counted.junctions (sym c.ends_fit.ensures ∙ c.if-not-ends_fit.false))
-    ∙ both_yes _ (c.requires.fresh (omega (arith, fit.from_in)) (omega (arith, fit.to_in)))
-    ∙ both_no _ (placed_counted _ _ _ _ _ c.requires.counted.pieces (sym c.is_placed.ensures ∙ c.if-not-is_placed.true)))
+    let edge = c.edge-edge.ensures in
+    let new = c.requires.fresh (omega (arith, fit.from_in, edge.from, r.counted.junctions)) (omega (arith, fit.to_in, edge.to, r.counted.junctions)) in
+    sym
+    (rule (volume_of r.bytes.now) r.counts c.args.e c.args.begin _ r.counted c.edge-edge.ensures c.requires.begin_value
+    ∙ both_yes _ (sym c.ends_fit.ensures ∙ c.if-not-ends_fit.false)
+    ∙ both_yes _ new
+    ∙ both_no _ (sym c.is_placed.ensures ∙ c.if-not-is_placed.true))
 
-pub pieces_fit-requires-clause-roads_value : goal.pieces_fit-requires-clause-roads_value
-pieces_fit-requires-clause-roads_value c =
+pub pieces_fit-requires-clause-e_bound : goal.pieces_fit-requires-clause-e_bound
+pieces_fit-requires-clause-e_bound c =
     let q = placed_fact _ _ _ _ (sym c.is_placed.ensures ∙ c.if-not-is_placed.false) in
-    (c.requires.counted.roads, c.requires.e_bound, omega (arith, q.inside, c.requires.counted.pieces))
+    let edge = c.edge-edge.ensures in
+    (c.requires.e_bound, omega (arith, q.inside, edge.first, edge.pieces, c.args.r.now.counted.pieces))
 
 pub returns-in_default : goal.returns-in_default
 returns-in_default c =
+    let r = c.args.r.now in
     let fit = ends_fact _ _ _ (sym c.ends_fit.ensures ∙ c.if-not-ends_fit.false) in
-    let j = c.requires.counted.junctions in
-    let f = c.edge_from-from.ensures.0 in
-    let g = c.edge_to-to.ensures.0 in
-    sym (edge_rule_lem (volume_of c.args.v.now) c.args.e _ _ _ _ _ c.edge_from-from.ensures.0 c.edge_to-to.ensures.0 c.edge_first-at.ensures.0 c.edge_pieces-n.ensures.0 c.requires.begin_value
-    ∙ both_yes _ (ends_counted _ _ _ _ c.requires.counted.junctions (sym c.ends_fit.ensures ∙ c.if-not-ends_fit.false))
-    ∙ both_yes _ (c.requires.fresh (omega (arith, fit.from_in)) (omega (arith, fit.to_in)))
-    ∙ both_yes _ (placed_counted _ _ _ _ _ c.requires.counted.pieces (sym c.is_placed.ensures ∙ c.if-not-is_placed.false))
+    let edge = c.edge-edge.ensures in
+    let new = c.requires.fresh (omega (arith, fit.from_in, edge.from, r.counted.junctions)) (omega (arith, fit.to_in, edge.to, r.counted.junctions)) in
+    sym
+    (rule (volume_of r.bytes.now) r.counts c.args.e c.args.begin _ r.counted c.edge-edge.ensures c.requires.begin_value
+    ∙ both_yes _ (sym c.ends_fit.ensures ∙ c.if-not-ends_fit.false)
+    ∙ both_yes _ new
+    ∙ both_yes _ (sym c.is_placed.ensures ∙ c.if-not-is_placed.false)
     ∙ both_no _ (fit_fault _ _ (sym c.in_default.is ∙ c.pieces_fit.ensures)))
 
-pub returns-then-span-greatest : goal.returns-then-span-greatest
-returns-then-span-greatest c =
+pub returns-then-edge-greatest : goal.returns-then-edge-greatest
+returns-then-edge-greatest c =
+    let r = c.args.r.now in
     let fit = ends_fact _ _ _ (sym c.ends_fit.ensures ∙ c.if-not-ends_fit.false) in
-    let j = c.requires.counted.junctions in
-    let f = c.edge_from-from.ensures.0 in
-    let g = c.edge_to-to.ensures.0 in
-    let spans = fit_span _ _ _ (sym c.in-Span.is ∙ c.pieces_fit.ensures) in
-    sym (edge_rule_lem (volume_of c.args.v.now) c.args.e _ _ _ _ _ c.edge_from-from.ensures.0 c.edge_to-to.ensures.0 c.edge_first-at.ensures.0 c.edge_pieces-n.ensures.0 c.requires.begin_value
-    ∙ both_yes _ (ends_counted _ _ _ _ c.requires.counted.junctions (sym c.ends_fit.ensures ∙ c.if-not-ends_fit.false))
-    ∙ both_yes _ (c.requires.fresh (omega (arith, fit.from_in)) (omega (arith, fit.to_in)))
-    ∙ both_yes _ (placed_counted _ _ _ _ _ c.requires.counted.pieces (sym c.is_placed.ensures ∙ c.if-not-is_placed.false))
+    let edge = c.edge-edge.ensures in
+    let new = c.requires.fresh (omega (arith, fit.from_in, edge.from, r.counted.junctions)) (omega (arith, fit.to_in, edge.to, r.counted.junctions)) in
+    let spans = fit_span _ _ _ (sym c.in-Some.is ∙ c.pieces_fit.ensures) in
+    sym
+    (rule (volume_of r.bytes.now) r.counts c.args.e c.args.begin _ r.counted c.edge-edge.ensures c.requires.begin_value
+    ∙ both_yes _ (sym c.ends_fit.ensures ∙ c.if-not-ends_fit.false)
+    ∙ both_yes _ new
+    ∙ both_yes _ (sym c.is_placed.ensures ∙ c.if-not-is_placed.false)
     ∙ both_yes _ spans.0
-    ∙ span_rule_lem (volume_of c.args.v.now) c.args.e _ _ c.edge_span-span.ensures.0 spans.1
-    ∙ both_no _ (ne_eqb _ _ c.if-span-greatest.true))
+    ∙ span_rule_lem (volume_of r.bytes.now) c.args.e _ _ edge.span spans.1
+    ∙ both_yes _ (eq-eqb _ _ c.if-edge-greatest.true))
 
-pub returns : goal.returns
-returns c =
+pub returns-else-edge-greatest : goal.returns-else-edge-greatest
+returns-else-edge-greatest c =
+    let r = c.args.r.now in
     let fit = ends_fact _ _ _ (sym c.ends_fit.ensures ∙ c.if-not-ends_fit.false) in
-    let j = c.requires.counted.junctions in
-    let f = c.edge_from-from.ensures.0 in
-    let g = c.edge_to-to.ensures.0 in
-    let spans = fit_span _ _ _ (sym c.in-Span.is ∙ c.pieces_fit.ensures) in
-    sym (edge_rule_lem (volume_of c.args.v.now) c.args.e _ _ _ _ _ c.edge_from-from.ensures.0 c.edge_to-to.ensures.0 c.edge_first-at.ensures.0 c.edge_pieces-n.ensures.0 c.requires.begin_value
-    ∙ both_yes _ (ends_counted _ _ _ _ c.requires.counted.junctions (sym c.ends_fit.ensures ∙ c.if-not-ends_fit.false))
-    ∙ both_yes _ (c.requires.fresh (omega (arith, fit.from_in)) (omega (arith, fit.to_in)))
-    ∙ both_yes _ (placed_counted _ _ _ _ _ c.requires.counted.pieces (sym c.is_placed.ensures ∙ c.if-not-is_placed.false))
+    let edge = c.edge-edge.ensures in
+    let new = c.requires.fresh (omega (arith, fit.from_in, edge.from, r.counted.junctions)) (omega (arith, fit.to_in, edge.to, r.counted.junctions)) in
+    let spans = fit_span _ _ _ (sym c.in-Some.is ∙ c.pieces_fit.ensures) in
+    ne_eqb _ _ c.if-edge-greatest.false
+    ∙ sym
+    (rule (volume_of r.bytes.now) r.counts c.args.e c.args.begin _ r.counted c.edge-edge.ensures c.requires.begin_value
+    ∙ both_yes _ (sym c.ends_fit.ensures ∙ c.if-not-ends_fit.false)
+    ∙ both_yes _ new
+    ∙ both_yes _ (sym c.is_placed.ensures ∙ c.if-not-is_placed.false)
     ∙ both_yes _ spans.0
-    ∙ span_rule_lem (volume_of c.args.v.now) c.args.e _ _ c.edge_span-span.ensures.0 spans.1
-    ∙ both_yes _ (eq-eqb _ _ c.if-span-greatest.false))
+    ∙ span_rule_lem (volume_of r.bytes.now) c.args.e _ _ edge.span spans.1
+    ∙ both_no _ (ne_eqb _ _ c.if-edge-greatest.false))

@@ -1,44 +1,48 @@
-use mathlib.Core.Path.{refl, sym, ◌∙◌}
-use native.Mathlib.Omega.{arith}
+use Rattle.std.proofs.Common.{ℕ, ◌≡◌, refl, sym, ◌∙◌, arith, Bool, true, false, Some, None}
+use Rattle.std.specs.Bool.{then_some}
 use Rattle.block.specs.Choose.{choose}
+use Rattle.records.specs.Format.{volume_of}
 use Rattle.rules.specs.EdgeSteps.{fit_road, fit_pair, pair_below}
 use Rattle.rules.specs.Kept.{part}
-use Rattle.records.specs.Format.{volume_of}
 use Rattle.rules.proofs.edges.piece_fit.Goals as goal
 
-pub returns-then-road_joins : goal.returns-then-road_joins
+-- a test as the span of a road that passes it
+some_joins : (t : Bool) → then_some {T = ℕ} t 1 ≡ choose t (Some 1) None
 unfolding choose
-returns-then-road_joins c =
-    sym (fit_road (volume_of c.args.v.now) c.args.e c.args.p _ _ _ _ c.requires.from_value.0 c.requires.from_value.1
-    c.piece_left-left.ensures.0 c.piece_right-right.ensures.0 c.if-right-eq-EMPTY.true (sym c.road_joins.ensures ∙ c.if-road_joins.true))
+some_joins true = refl
+some_joins false = refl
 
-pub returns-then-right-eq-EMPTY : goal.returns-then-right-eq-EMPTY
-unfolding choose
-returns-then-right-eq-EMPTY c =
-    sym (fit_road (volume_of c.args.v.now) c.args.e c.args.p _ _ _ _ c.requires.from_value.0 c.requires.from_value.1
-    c.piece_left-left.ensures.0 c.piece_right-right.ensures.0 c.if-right-eq-EMPTY.true (sym c.road_joins.ensures ∙ c.if-road_joins.false))
+pub returns-in-Road : goal.returns-in-Road
+returns-in-Road c =
+    let w = rw c.in-Road.is at c.piece.ensures.way in
+    let joins = some_joins c.road_joins.result in
+    c.then_some.ensures
+    ∙ joins
+    ∙ sym (fit_road (volume_of c.args.r.now.bytes.now) c.args.e c.args.p _ _ _ _ c.requires.from_value.0 c.requires.from_value.1 w.1 refl w.0 (sym c.road_joins.ensures))
 
 pub kept_part-requires : goal.kept_part-requires
 kept_part-requires c =
-    let q = pair_below (volume_of c.args.v.now) _ _ _ _ _ (sym c.pair_joins.ensures ∙ c.if-pair_joins.true) in
+    let q = pair_below (volume_of c.args.r.now.bytes.now) _ _ _ _ _ (sym c.pair_joins.ensures ∙ c.if-pair_joins.true) in
     omega (arith, c.requires.kept.room, c.requires.kept.inside)
 
 pub kept_part-requires-then-pair_joins : goal.kept_part-requires-then-pair_joins
 kept_part-requires-then-pair_joins c =
-    let q = pair_below (volume_of c.args.v.now) _ _ _ _ _ (sym c.pair_joins.ensures ∙ c.if-pair_joins.true) in
+    let q = pair_below (volume_of c.args.r.now.bytes.now) _ _ _ _ _ (sym c.pair_joins.ensures ∙ c.if-pair_joins.true) in
     omega (arith, c.requires.kept.room, c.requires.kept.inside)
 
 pub returns-then-pair_joins : goal.returns-then-pair_joins
 unfolding choose part
 returns-then-pair_joins c =
-    let q = pair_below (volume_of c.args.v.now) _ _ _ _ _ (sym c.pair_joins.ensures ∙ c.if-pair_joins.true) in
+    let w = rw c.in-Turn.is at c.piece.ensures.way in
+    let q = pair_below (volume_of c.args.r.now.bytes.now) _ _ _ _ _ (sym c.pair_joins.ensures ∙ c.if-pair_joins.true) in
     let K = c.requires.kept in
-    sym (fit_pair (volume_of c.args.v.now) c.args.e c.args.p _ _ _ _ c.requires.from_value.0 c.requires.from_value.1
-    c.piece_left-left.ensures.0 c.piece_right-right.ensures.0 c.if-right-eq-EMPTY.false (sym c.pair_joins.ensures ∙ c.if-pair_joins.true)
+    sym (fit_pair (volume_of c.args.r.now.bytes.now) c.args.e c.args.p _ _ _ _ c.requires.from_value.0 c.requires.from_value.1
+    w.1 w.2 (λ z. w.0 (sym w.2 ∙ z)) (sym c.pair_joins.ensures ∙ c.if-pair_joins.true)
     _ _ (c.kept_part.ensures.0 ∙ K.parts _ 2 q.0 (omega arith)) (c.kept_part-then-pair_joins.ensures.0 ∙ K.parts _ 2 q.1 (omega arith)))
 
-pub returns : goal.returns
+pub returns-else-pair_joins : goal.returns-else-pair_joins
 unfolding choose
-returns c =
-    sym (fit_pair (volume_of c.args.v.now) c.args.e c.args.p _ _ _ _ c.requires.from_value.0 c.requires.from_value.1
-    c.piece_left-left.ensures.0 c.piece_right-right.ensures.0 c.if-right-eq-EMPTY.false (sym c.pair_joins.ensures ∙ c.if-pair_joins.false) _ _ refl refl)
+returns-else-pair_joins c =
+    let w = rw c.in-Turn.is at c.piece.ensures.way in
+    sym (fit_pair (volume_of c.args.r.now.bytes.now) c.args.e c.args.p _ _ _ _ c.requires.from_value.0 c.requires.from_value.1
+    w.1 w.2 (λ z. w.0 (sym w.2 ∙ z)) (sym c.pair_joins.ensures ∙ c.if-pair_joins.false) _ _ refl refl)

@@ -4,7 +4,7 @@ use Rattle.rules.proofs.kept.keep.Goals as goal
 pub returns : goal.returns
 unfolding keeping
 returns c =
-    let f = c.edge_from-from.ensures.0 in
-    let t = c.edge_to-to.ensures.0 in
-    let n = c.edge_span-span.ensures.0 in
+    let from = c.edge-edge.ensures.from in
+    let to = c.edge-edge.ensures.to in
+    let span = c.edge-edge.ensures.span in
     (cc)

@@ -3,7 +3,7 @@ use mathlib.Core.Path.{◌≡◌, sym, ◌∙◌, ap, ap₂}
 use mathlib.Core.List.{List}
 use native.Mathlib.Nat.{add-zero}
 use borrow.Author.Tests.{lt-ltb, le-ltb}
-use borrow.Author.Rules.{rules}
+use native.Mathlib.Omega.{arith}
 use Rattle.block.specs.Choose.{choose_yes, choose_no}
 use Rattle.block.specs.First.{first_go, all_stop, all_last}
 use Rattle.rules.specs.Rules.{next_second, next_duration, point_fits, point_rule}
@@ -34,22 +34,24 @@ module _ (v : List ℕ) (first n i : ℕ) (p q : Point) (h : IsPoint (volume_of 
 pub returns-then-not-point_fits : goal.returns-then-not-point_fits
 returns-then-not-point_fits c =
     let a = c.args in
-    sym (all_stop (point_rule (volume_of a.v.now) a.first a.n) a.n c.loop-i.i (search rules)
-    (inner a.v.now a.first a.n c.loop-i.i _ _ c.loop-i.invariant.2 (search rules) c.point_at-b.ensures
-    ∙ sym c.point_fits.ensures ∙ c.if-not-point_fits.true) c.loop-i.invariant.1)
+    let v = a.r.now.bytes.now in
+    sym (all_stop (point_rule (volume_of v) a.first a.n) a.n c.loop-i.i (omega arith)
+    (inner v a.first a.n c.loop-i.i _ _ c.loop-i.invariant.1 (omega arith) c.point-b.ensures
+    ∙ sym c.point_fits.ensures ∙ c.if-not-point_fits.true) c.loop-i.invariant.0)
 
 pub loop-i-preserved : goal.loop-i-preserved
 loop-i-preserved c =
-    let a = c.args in (
-      search rules,
-      first_go (point_rule (volume_of a.v.now) a.first a.n) a.n c.loop-i.i (search rules)
-          (inner a.v.now a.first a.n c.loop-i.i _ _ c.loop-i.invariant.2 (search rules) c.point_at-b.ensures
-          ∙ sym c.point_fits.ensures ∙ c.if-not-point_fits.false) c.loop-i.invariant.1,
-      c.point_at-b.ensures,
+    let a = c.args in
+    let v = a.r.now.bytes.now in (
+      first_go (point_rule (volume_of v) a.first a.n) a.n c.loop-i.i (omega arith)
+          (inner v a.first a.n c.loop-i.i _ _ c.loop-i.invariant.1 (omega arith) c.point-b.ensures
+          ∙ sym c.point_fits.ensures ∙ c.if-not-point_fits.false) c.loop-i.invariant.0,
+      c.point-b.ensures,
     )
 
 pub returns : goal.returns
 returns c =
     let a = c.args in
-    let is = last a.v.now a.first a.n c.loop-i.i _ _ c.loop-i.invariant.2 (search rules) c.point_at-again.ensures ∙ sym c.point_fits-2.ensures in
-    sym (all_last (point_rule (volume_of a.v.now) a.first a.n) a.n c.loop-i.i (search rules) c.loop-i.invariant.1 ∙ is)
+    let v = a.r.now.bytes.now in
+    let is = last v a.first a.n c.loop-i.i _ _ c.loop-i.invariant.1 (omega arith) c.point-again.ensures ∙ sym c.point_fits-2.ensures in
+    sym (all_last (point_rule (volume_of v) a.first a.n) a.n c.loop-i.i (omega arith) c.loop-i.invariant.0 ∙ is)

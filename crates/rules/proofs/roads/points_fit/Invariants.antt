@@ -1,12 +1,10 @@
-use Prim.Native.Nat.{◌+◌, ◌<◌, ◌-◌}
+use Rattle.std.proofs.Common.{◌+◌}
 use Rattle.block.specs.First.{Passed}
-use Rattle.rules.specs.Rules.{point_rule}
 use Rattle.records.specs.Format.{volume_of, IsPoint}
+use Rattle.rules.specs.Rules.{point_rule}
 use Rattle.rules.proofs.roads.points_fit.Given as goal
 
 abbrev pub invariant-loop-i : goal.invariant-loop-i
 invariant-loop-i l =
-    (l.i < l.n) × Passed (point_rule (volume_of l.v) l.first l.n) l.n l.i × IsPoint (volume_of l.v) (l.first + l.i) l.a
-
-abbrev pub decreases-loop-i : goal.decreases-loop-i
-decreases-loop-i l = l.n - l.i
+    let vol = volume_of l.r.bytes.now in
+    Passed (point_rule vol l.first l.n) l.n l.i × IsPoint vol (l.first + l.i) l.a
