@@ -1,8 +1,8 @@
 // The edges of each junction, in rising order, made in one pass for whoever would look through all
 // edges otherwise: opening, the full check and the search.
-ghost use Rattle.std.specs.Prelude.{◌≡◌, ◌≤◌, length};
+ghost use Rattle.std.specs.Prelude.{◌≡◌, ◌+◌, ◌≤◌, ◌<◌, length};
 ghost use Rattle.records.specs.Format.{volume_of};
-ghost use Rattle.records.specs.Index.{Indexed};
+ghost use Rattle.records.specs.Index.{Indexed, Linked, next_from};
 
 use crate::readers::Records;
 
@@ -20,5 +20,33 @@ pub fn index_edges(r: &Records<'_>, first: &mut [u16], next: &mut [u16])
             next[e] = first[from];
             first[from] = e as u16;
         }
+    }
+}
+
+// The records with their edges indexed, in lists that someone lends.
+#[derive(Clone, Copy)]
+pub struct Index<'a> {
+    pub records: Records<'a>,
+    pub first: &'a [u16],
+    pub next: &'a [u16],
+    pub ghost linked: { Linked (volume_of records.bytes.now) first.now next.now },
+}
+
+impl Index<'_> {
+    // The first edge from junction u, or E.
+    pub fn first(&self, u: usize) -> usize
+        requires { u < (volume_of self.now.records.bytes.now).junctions }
+        ensures { result ≡ next_from (volume_of self.now.records.bytes.now) u 0 }
+    {
+        self.first[u] as usize
+    }
+
+    // The edge after e from the same junction, or E.
+    pub fn next(&self, e: usize) -> usize
+        requires e_bound { e < (volume_of self.now.records.bytes.now).edges }
+        requires from_bound { (volume_of self.now.records.bytes.now).edge_from e < (volume_of self.now.records.bytes.now).junctions }
+        ensures { result ≡ next_from (volume_of self.now.records.bytes.now) ((volume_of self.now.records.bytes.now).edge_from e) (e + 1) }
+    {
+        self.next[e] as usize
     }
 }
