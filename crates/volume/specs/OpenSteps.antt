@@ -1,5 +1,5 @@
 -- What each step of opening learns, over plain numbers.
-use Rattle.std.specs.Prelude.{ℕ, ◌*◌, ◌/◌, ◌≤◌, Bool, List, length, leb}
+use Rattle.std.specs.Prelude.{ℕ, ◌*◌, ◌/◌, ◌≤◌, Bool, List, length, leb, Ok, Err}
 use Rattle.std.proofs.Math.Path.{◌≡◌, refl}
 use Rattle.std.proofs.Common.{ap, sym, ◌∙◌, arith, leb-true}
 use Rattle.std.proofs.Math.Bool.{true, false}
@@ -11,8 +11,8 @@ use Rattle.volume.specs.Passes.{pass_over}
 use Rattle.volume.specs.Open.{records_of}
 use Rattle.records.specs.declared.tables.Counts.{Counts}
 use Rattle.records.specs.declared.tables.Tables.{Tables}
-use Rattle.volume.specs.declared.road_pass.Pass.TheVariants.{Fine, Fault}
-use Rattle.volume.specs.declared.Opening.TheVariants.{Opened, Refused}
+use Rattle.block.specs.declared.refusal.Refusal.{Refusal}
+use Rattle.block.specs.declared.refusal.Refusal.TheVariants.{Road, Edge}
 
 -- the head's limits as facts
 pub head_few : (c : Counts) → head_fits c ≡ true → Few c
@@ -57,35 +57,41 @@ pub counts_rule_lem : (v : List ℕ) (c : Counts) (words blocks : ℕ) → c ≡
 unfolding counts_rule
 counts_rule_lem v c words blocks e h = let w : words_of (volume_of v) ≡ words = ap words_in (sym e) ∙ sym h in (cc)
 
--- what a pass says
-module _ (rule : ℕ → Bool) (first number : ℕ → ℕ) (n total : ℕ) where
-  pub pass_faulty : (k : ℕ) → Fault k ≡ pass_over rule first number n total
-      → (all_obey rule first number n total ≡ false) × (k ≡ first_not rule n 0)
-  unfolding pass_over
-  pass_faulty k h = go (all_obey rule first number n total) refl
-    where
-      go : (t : Bool) → all_obey rule first number n total ≡ t → (all_obey rule first number n total ≡ false) × (k ≡ first_not rule n 0)
-      go true q = absurd (let r = h ∙ choose_yes Fine (Fault (first_not rule n 0)) q in let z : ◌≡◌ {A = ℕ} 0 1 = (cc) in omega arith)
-      go false q = (q, (let r = h ∙ choose_no Fine (Fault (first_not rule n 0)) q in (cc)))
+-- a refusal is no answer
+not_ok : {A E : Type 0} (why : E) (a : A) → Err why ≡ Ok a → ⊥
+not_ok why a e = (cc)
 
-  pub pass_whole : Fine ≡ pass_over rule first number n total → all_obey rule first number n total ≡ true
+-- what a pass says
+module _ (fault : ℕ → Refusal) (rule : ℕ → Bool) (first number : ℕ → ℕ) (n total : ℕ) where
+  pub pass_faulty : (why : Refusal) → Err why ≡ pass_over fault rule first number n total
+      → (all_obey rule first number n total ≡ false) × (why ≡ fault (first_not rule n 0))
   unfolding pass_over
-  pass_whole h = go (all_obey rule first number n total) refl
+  pass_faulty why h = go (all_obey rule first number n total) refl
+    where
+      go : (t : Bool) → all_obey rule first number n total ≡ t
+          → (all_obey rule first number n total ≡ false) × (why ≡ fault (first_not rule n 0))
+      go true q = absurd (not_ok _ _ (h ∙ choose_yes (Ok tt) (Err (fault (first_not rule n 0))) q))
+      go false q = (q, (let r = h ∙ choose_no (Ok tt) (Err (fault (first_not rule n 0))) q in (cc)))
+
+  pub pass_whole : (u : Unit) → Ok u ≡ pass_over fault rule first number n total → all_obey rule first number n total ≡ true
+  unfolding pass_over
+  pass_whole u h = go (all_obey rule first number n total) refl
     where
       go : (t : Bool) → all_obey rule first number n total ≡ t → all_obey rule first number n total ≡ true
       go true q = q
-      go false q = absurd (let r = h ∙ choose_no Fine (Fault (first_not rule n 0)) q in let z : ◌≡◌ {A = ℕ} 0 1 = (cc) in omega arith)
+      go false q = absurd (not_ok _ _ (sym (h ∙ choose_no (Ok tt) (Err (fault (first_not rule n 0))) q)))
 
 -- the three ways through the records
 
-pub records_road : (vol : Volume) (k : ℕ) → roads_rule vol ≡ false → k ≡ first_road vol → records_of vol ≡ Refused 5 k
+pub records_road : (vol : Volume) (why : Refusal) → roads_rule vol ≡ false → why ≡ Road (first_road vol) → records_of vol ≡ Err why
 unfolding records_of
-records_road vol k q e = choose_no _ _ q ∙ ap (Refused 5) (sym e)
+records_road vol why q e = choose_no _ _ q ∙ ap Err (sym e)
 
-pub records_edge : (vol : Volume) (k : ℕ) → roads_rule vol ≡ true → edges_rule vol ≡ false → k ≡ first_edge vol → records_of vol ≡ Refused 6 k
+pub records_edge : (vol : Volume) (why : Refusal) → roads_rule vol ≡ true → edges_rule vol ≡ false → why ≡ Edge (first_edge vol)
+    → records_of vol ≡ Err why
 unfolding records_of
-records_edge vol k p q e = choose_yes _ _ p ∙ choose_no _ _ q ∙ ap (Refused 6) (sym e)
+records_edge vol why p q e = choose_yes _ _ p ∙ choose_no _ _ q ∙ ap Err (sym e)
 
-pub records_fine : (vol : Volume) (c : Counts) → roads_rule vol ≡ true → edges_rule vol ≡ true → c ≡ counts_of vol → records_of vol ≡ Opened c
+pub records_fine : (vol : Volume) (c : Counts) → roads_rule vol ≡ true → edges_rule vol ≡ true → c ≡ counts_of vol → records_of vol ≡ Ok c
 unfolding records_of
-records_fine vol c p q e = choose_yes _ _ p ∙ choose_yes _ _ q ∙ ap Opened (sym e)
+records_fine vol c p q e = choose_yes _ _ p ∙ choose_yes _ _ q ∙ ap Ok (sym e)

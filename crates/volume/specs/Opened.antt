@@ -1,6 +1,6 @@
 -- A volume that opens is sound: from the tests of Rules, of the crate `rules`, to the facts of Sound.
 use Prim.Native.Nat.{ℕ, zero, suc, ◌+◌, ◌-◌, ◌/◌, ◌≤◌, ◌<◌, max}
-use Rattle.std.specs.Prelude.{◌≡◌, refl, ◌≢◌, true, List, length, eqb, leb, ltb}
+use Rattle.std.specs.Prelude.{◌≡◌, refl, ◌≢◌, true, List, length, eqb, leb, ltb, Ok, Err}
 use Rattle.std.proofs.Math.Path.{sym}
 use Rattle.std.proofs.Common.{◌∙◌}
 use Rattle.std.proofs.Math.Bool.{not}
@@ -11,15 +11,16 @@ use Rattle.block.specs.Choose.{choose, choose_yes, choose_no, choose_first, both
 use Rattle.block.specs.First.{all_below, all_below_lem}
 use Rattle.block.specs.Good.{first_bad}
 use Rattle.block.specs.Whole.{whole}
-use Rattle.records.specs.Format.{Volume, volume_of, counts_of, words_of, tables_of, Counted, Few, Laid, period_is}
-use Rattle.rules.specs.Rules.{longest, empty, ends_fit, begins, placed, point_fits, next_second, next_duration, point_rule, second, duration, road_rule, all_obey, roads_rule, start, same_ends, new_ends, start_fits, road_joins, meet, pair_joins, piece_fits, piece_rule, piece_span, greatest_span, edge_rule, edges_rule, counts_rule, head_fits, fewest_blocks, first_road, first_edge}
+use Rattle.records.specs.Format.{Volume, volume_of, counts_of, words_of, tables_of, Counted, Few, Laid, period_is, empty}
+use Rattle.rules.specs.Rules.{longest, ends_fit, begins, placed, point_fits, next_second, next_duration, point_rule, second, duration, road_rule, all_obey, roads_rule, start, same_ends, new_ends, start_fits, road_joins, meet, pair_joins, piece_fits, piece_rule, piece_span, greatest_span, edge_rule, edges_rule, counts_rule, head_fits, fewest_blocks, first_road, first_edge}
 use Rattle.volume.specs.Sound.{Points, SoundRoad, RoadPiece, PairPiece, SoundEdge, Sound}
 use Rattle.rules.specs.Facts.{ends_fact, placed_fact}
 use Rattle.rules.specs.EdgeSteps.{EdgeTests, edge_tests, edge_spans}
 use Rattle.volume.specs.Open.{records_of, open_of}
 use Rattle.volume.specs.OpenSteps.{head_few, counted_of, laid_of}
 use Rattle.records.specs.declared.tables.Counts.{Counts}
-use Rattle.volume.specs.declared.Opening.TheVariants.{Opened, Refused}
+use Rattle.block.specs.declared.refusal.Refusal.{Refusal}
+use Rattle.block.specs.declared.refusal.Refusal.TheVariants.{Length, Sums, Edition, Head, Road, Edge}
 
 -- roads
 
@@ -212,22 +213,22 @@ sound_fact vol p few rs es = record {
   edge = λ e h. edge_fact vol e (edge_tests vol e (all_below_lem vol.edges (edge_rule vol) (both_left (all_below vol.edges (edge_rule vol)) _ es) e h));
 }
 
-not_refused : (number place : ℕ) (c : Counts) → Refused number place ≡ Opened c → ⊥
-not_refused number place c e = let z : ◌≡◌ {A = ℕ} 0 1 = (cc) in omega arith
+not_refused : (why : Refusal) (c : Counts) → Err why ≡ Ok c → ⊥
+not_refused why c e = (cc)
 
 -- a volume that opens is sound
-pub opened : (v : List ℕ) (c : Counts) → open_of v ≡ Opened c → OpenVolume v c
+pub opened : (v : List ℕ) (c : Counts) → open_of v ≡ Ok c → OpenVolume v c
 unfolding open_of records_of counts_rule fewest_blocks
 opened v c e =
     let vol = volume_of v in
     let blocks = length v / 512 in
-    let no : (number place : ℕ) → Refused number place ≡ Opened c → ⊥ = λ number place. not_refused number place c in
-    let s₁ = choose_first (whole (length v)) _ (Refused 1 0) (Opened c) e (no 1 0) in
-    let s₂ = choose_first (eqb (first_bad v blocks) blocks) _ (Refused 2 (first_bad v blocks)) (Opened c) s₁.1 (no 2 (first_bad v blocks)) in
-    let s₃ = choose_first (eqb vol.edition 1) _ (Refused 3 0) (Opened c) s₂.1 (no 3 0) in
-    let s₄ = choose_first (counts_rule v vol blocks) _ (Refused 4 0) (Opened c) s₃.1 (no 4 0) in
-    let s₅ = choose_first (roads_rule vol) _ (Refused 5 (first_road vol)) (Opened c) s₄.1 (no 5 (first_road vol)) in
-    let s₆ = choose_first (edges_rule vol) (Opened (counts_of vol)) (Refused 6 (first_edge vol)) (Opened c) s₅.1 (no 6 (first_edge vol)) in
+    let no : (why : Refusal) → Err why ≡ Ok c → ⊥ = λ why. not_refused why c in
+    let s₁ = choose_first (whole (length v)) _ (Err Length) (Ok c) e (no Length) in
+    let s₂ = choose_first (eqb (first_bad v blocks) blocks) _ (Err (Sums (first_bad v blocks))) (Ok c) s₁.1 (no (Sums (first_bad v blocks))) in
+    let s₃ = choose_first (eqb vol.edition 1) _ (Err Edition) (Ok c) s₂.1 (no Edition) in
+    let s₄ = choose_first (counts_rule v vol blocks) _ (Err Head) (Ok c) s₃.1 (no Head) in
+    let s₅ = choose_first (roads_rule vol) _ (Err (Road (first_road vol))) (Ok c) s₄.1 (no (Road (first_road vol))) in
+    let s₆ = choose_first (edges_rule vol) (Ok (counts_of vol)) (Err (Edge (first_edge vol))) (Ok c) s₅.1 (no (Edge (first_edge vol))) in
     let is : c ≡ counts_of vol = (let f = s₆.1 in (cc)) in
     let few = head_few (counts_of vol) (both_left (head_fits (counts_of vol)) _ s₄.0) in
     let fewest = eqb-true blocks ((words_of vol + 125) / 126) (both_left (eqb blocks ((words_of vol + 125) / 126)) _ (both_right (head_fits (counts_of vol)) _ s₄.0)) in

@@ -1,8 +1,8 @@
 -- What a sound volume obeys, as named facts about its functions: as much of it as the crates above opening use, and no rule's text. That
--- a volume is sound, with nothing left out, is that it opens: `open_of` of Open answers `Opened`.
+-- a volume is sound, with nothing left out, is that it opens: `open_of` of Open answers `Ok`.
 use Rattle.std.specs.Prelude.{ℕ, ◌+◌, ◌-◌, ◌≤◌, ◌<◌, ◌≡◌, ◌≢◌}
-use Rattle.records.specs.Format.{Volume}
-use Rattle.rules.specs.Rules.{longest, most_span, empty, begins, second, duration, start}
+use Rattle.records.specs.Format.{Volume, empty}
+use Rattle.rules.specs.Rules.{longest, most_span, begins, second, duration, start}
 
 -- n points with seconds s and durations d, in a period
 pub record Points (period n : ℕ) (s d : ℕ → ℕ) : Type 0 where

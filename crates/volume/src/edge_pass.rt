@@ -1,114 +1,73 @@
 // The pass over the edges, and the lists that it works with.
 ghost use Rattle.std.specs.Prelude.{◌≡◌, ◌*◌, ◌≤◌, length};
-ghost use Rattle.records.specs.Format.{volume_of, Counted, Few, Laid};
+ghost use Rattle.records.specs.Format.{volume_of};
 ghost use Rattle.volume.specs.Passes.{edges_pass};
 ghost use Rattle.volume.specs.Repeats.{Stamped, FirstRepeat};
 
 use crate::repeats::first_repeat;
-use crate::road_pass::Pass;
-use records::index::index_edges;
-use records::tables::{Counts, Tables, edge_pieces};
+use block::refusal::Refusal;
+use records::index::{Index, index_edges};
+use records::readers::Records;
 use rules::edges::edge_fits;
 use rules::kept::keep;
 
-// The pass over all edges, of which `repeat` is the first whose ends an earlier one has: the first edge at fault, or E where pieces
-// are left over. It keeps what later pairs ask of an edge.
-fn pass_keeping(v: &[u8], t: Tables, c: Counts, repeat: usize, kept: &mut [u16]) -> Pass
-    requires laid { Laid v.now t }
-    requires counted { Counted (volume_of v.now) c }
-    requires few { Few c }
-    requires first_repeat { FirstRepeat (volume_of v.now) repeat }
-    requires edges_in_bounds { 3 * c.edges ≤ length kept.old }
-    ensures { result ≡ edges_pass (volume_of v.now) }
+// The pass over all edges, of which `repeat` is the first whose ends an earlier one has: refuses the first edge at fault, or E where
+// pieces are left over. It keeps what later pairs ask of an edge.
+fn pass_keeping(r: &Records<'_>, repeat: usize, kept: &mut [u16]) -> Result<(), Refusal>
+    requires first_repeat { FirstRepeat (volume_of r.now.bytes.now) repeat }
+    requires edges_in_bounds { 3 * r.now.counts.edges ≤ length kept.old }
+    ensures { result ≡ edges_pass (volume_of r.now.bytes.now) }
 {
     let mut begin: usize = 0;
-    let mut e: usize = 0;
-    while e < repeat {
-        if !edge_fits(v, t, kept, c, e, begin) {
-            return Pass::Fault(e);
+    for e in 0..repeat {
+        if !edge_fits(r, kept, e, begin) {
+            return Err(Refusal::Edge(e));
         }
-        begin += edge_pieces(v, t, e);
-        keep(v, t, kept, e);
-        e += 1;
+        begin += r.edge(e).pieces;
+        keep(r, kept, e);
     }
-    if e < c.edges {
-        return Pass::Fault(e);
+    if repeat < r.counts.edges {
+        return Err(Refusal::Edge(repeat));
     }
-    if begin != c.pieces {
-        return Pass::Fault(e);
+    if begin != r.counts.pieces {
+        return Err(Refusal::Edge(repeat));
     }
-    Pass::Fine
+    Ok(())
 }
 
-// The pass over all edges. The list holds the index until the first repeat is found, and then what is kept of the edges that passed.
-fn pass_within(
-    v: &[u8],
-    t: Tables,
-    c: Counts,
-    first: &mut [u16],
-    stamps: &mut [u16],
-    list: &mut [u16],
-) -> Pass
-    requires laid { Laid v.now t }
-    requires counted { Counted (volume_of v.now) c }
-    requires few { Few c }
-    requires junctions_in_bounds { (c.junctions ≤ length first.old) × (3 * c.edges ≤ length list.old) }
-    requires stamped { Stamped c.junctions 0 stamps.old }
-    ensures { result ≡ edges_pass (volume_of v.now) }
+// The pass over all edges, with lists for J junctions and L numbers. One list holds the index until the first repeat is found, and then
+// what is kept of the edges that passed.
+fn pass_with<const J: usize, const L: usize>(r: &Records<'_>) -> Result<(), Refusal>
+    requires j_bound { (r.now.counts.junctions ≤ J) × (J ≤ 1024) }
+    requires l_bound { (3 * r.now.counts.edges ≤ L) × (L ≤ 49152) }
+    ensures { result ≡ edges_pass (volume_of r.now.bytes.now) }
 {
-    index_edges(v, t, c, first, list);
-    let repeat = first_repeat(v, t, c, first, list, stamps);
-    pass_keeping(v, t, c, repeat, list)
+    let mut first = [0u16; J];
+    let mut stamps = [0u16; J];
+    let mut list = [0u16; L];
+    index_edges(r, &mut first, &mut list);
+    let index = Index {
+        records: *r,
+        first: &first,
+        next: &list,
+    };
+    let repeat = first_repeat(&index, &mut stamps);
+    pass_keeping(r, repeat, &mut list)
 }
 
-// The same for few junctions and edges, whose lists are soon made.
-fn pass_few(v: &[u8], t: Tables, c: Counts) -> Pass
-    requires laid { Laid v.now t }
-    requires counted { Counted (volume_of v.now) c }
-    requires few { Few c }
-    requires junctions_bound { (c.junctions ≤ 64) × (c.edges ≤ 64) }
-    ensures { result ≡ edges_pass (volume_of v.now) }
+// The pass over all edges: refuses the first at fault, or E where pieces are left over. Long lists take longer to make than a small
+// volume takes to read, so fewer edges get shorter lists.
+pub fn edges_pass(r: &Records<'_>) -> Result<(), Refusal>
+    ensures { result ≡ edges_pass (volume_of r.now.bytes.now) }
 {
-    let mut first = [0u16; 64];
-    let mut stamps = [0u16; 64];
-    let mut list = [0u16; 192];
-    pass_within(v, t, c, &mut first, &mut stamps, &mut list)
-}
-
-// The same for any number of junctions.
-fn pass_many(v: &[u8], t: Tables, c: Counts, list: &mut [u16]) -> Pass
-    requires laid { Laid v.now t }
-    requires counted { Counted (volume_of v.now) c }
-    requires few { Few c }
-    requires edges_in_bounds { 3 * c.edges ≤ length list.old }
-    ensures { result ≡ edges_pass (volume_of v.now) }
-{
-    let mut first = [0u16; 1024];
-    let mut stamps = [0u16; 1024];
-    pass_within(v, t, c, &mut first, &mut stamps, list)
-}
-
-// The pass over all edges: the first at fault, or E where pieces are left over. Long lists take longer to make than a small volume takes
-// to read, so fewer edges get shorter lists.
-pub fn edges_pass(v: &[u8], t: Tables, c: Counts) -> Pass
-    requires laid { Laid v.now t }
-    requires counted { Counted (volume_of v.now) c }
-    requires few { Few c }
-    ensures { result ≡ edges_pass (volume_of v.now) }
-{
-    if c.edges <= 64 {
-        if c.junctions <= 64 {
-            return pass_few(v, t, c);
-        }
+    let edges = r.counts.edges;
+    if edges <= 64 && r.counts.junctions <= 64 {
+        pass_with::<64, 192>(r)
+    } else if edges <= 1024 {
+        pass_with::<1024, 3072>(r)
+    } else if edges <= 4096 {
+        pass_with::<1024, 12288>(r)
+    } else {
+        pass_with::<1024, 49152>(r)
     }
-    if c.edges <= 1024 {
-        let mut list = [0u16; 3072];
-        return pass_many(v, t, c, &mut list);
-    }
-    if c.edges <= 4096 {
-        let mut list = [0u16; 12288];
-        return pass_many(v, t, c, &mut list);
-    }
-    let mut list = [0u16; 49152];
-    pass_many(v, t, c, &mut list)
 }

@@ -3,26 +3,24 @@
 // `travel`.
 #![tactic(auto)]
 
-ghost use Rattle.std.specs.Prelude.{◌≡◌, ◌*◌, ◌/◌, ◌≤◌, length};
+ghost use Rattle.std.specs.Prelude.{◌≡◌, ◌*◌, ◌/◌, ◌≤◌, length, IfOk, IfErr};
 ghost use Rattle.block.specs.Choose.{choose};
-ghost use Rattle.records.specs.Format.{volume_of, counts_of, tables_of, Few, Laid};
+ghost use Rattle.records.specs.Format.{volume_of, counts_of};
 ghost use Rattle.rules.specs.Rules.{head_fits, filler_zero, counts_rule};
 ghost use Rattle.volume.specs.Open.{records_of, open_of};
 
 use crate::edge_pass::edges_pass;
-use crate::road_pass::{Pass, roads_pass};
+use crate::road_pass::roads_pass;
+use crate::sound::Opened;
+use block::refusal::Refusal;
 use block::{content, first_bad, is_whole};
-use records::tables::{Counts, Tables, tables_of, words_of};
+use records::readers::Records;
+use records::tables::{Counts, tables_of, words_of};
 
 pub mod edge_pass;
 pub mod repeats;
 pub mod road_pass;
-
-#[derive(Clone, Copy)]
-pub enum Opening {
-    Opened(Counts),
-    Refused(u32, u64),
-}
+pub mod sound;
 
 // N, R, P, E and Q as the head says.
 fn head(v: &[u8]) -> Counts
@@ -36,15 +34,6 @@ fn head(v: &[u8]) -> Counts
         edges: content(v, 4) as usize,
         pieces: content(v, 5) as usize,
     }
-}
-
-// Where the tables of a volume within the limits begin, as its head says.
-pub fn tables_in(v: &[u8]) -> Tables
-    requires in_bounds { 512 ≤ length v.now }
-    requires few { Few (counts_of (volume_of v.now)) }
-    ensures { result ≡ tables_of (counts_of (volume_of v.now)) }
-{
-    tables_of(head(v))
 }
 
 // Are the counts within the limits?
@@ -71,69 +60,76 @@ fn filler_zero(v: &[u8], words: usize, blocks: usize) -> bool
     ensures { result ≡ filler_zero v.now words blocks }
 {
     let n = 126 * blocks - words;
-    let mut i: usize = 0;
-    while i < n {
+    for i in 0..n {
         if content(v, words + i) != 0 {
             return false;
         }
-        i += 1;
     }
     true
 }
 
 // Roads, then edges.
-fn open_records(v: &[u8], t: Tables, c: Counts) -> Opening
-    requires laid { Laid v.now t }
-    requires c_value { c ≡ counts_of (volume_of v.now) }
-    requires few { Few c }
-    ensures { result ≡ records_of (volume_of v.now) }
+fn open_records(r: &Records<'_>) -> Result<Counts, Refusal>
+    ensures { result ≡ records_of (volume_of r.now.bytes.now) }
 {
-    let roads = roads_pass(v, t, c);
-    if let Pass::Fault(k) = roads {
-        return Opening::Refused(5, k as u64);
-    }
-    let edges = edges_pass(v, t, c);
-    if let Pass::Fault(e) = edges {
-        return Opening::Refused(6, e as u64);
-    }
-    Opening::Opened(c)
+    roads_pass(r)?;
+    edges_pass(r)?;
+    Ok(r.counts)
 }
 
 // Head, block count and filler, then the records.
-fn open_counts(v: &[u8], blocks: usize) -> Opening
+fn open_counts(v: &[u8], blocks: usize) -> Result<Counts, Refusal>
     requires { (blocks ≡ length v.now / 512) × (512 ≤ length v.now) }
-    ensures { result ≡ choose (counts_rule v.now (volume_of v.now) blocks) (records_of (volume_of v.now)) (Opening.Refused 4 0) }
+    ensures { result ≡ choose (counts_rule v.now (volume_of v.now) blocks) (records_of (volume_of v.now)) (Err Refusal.Head) }
 {
-    let c = head(v);
-    if !head_fits(c) {
-        return Opening::Refused(4, 0);
+    let counts = head(v);
+    if !head_fits(counts) {
+        return Err(Refusal::Head);
     }
-    let words = words_of(c);
+    let words = words_of(counts);
     if blocks != (words + 125) / 126 {
-        return Opening::Refused(4, 0);
+        return Err(Refusal::Head);
     }
     if !filler_zero(v, words, blocks) {
-        return Opening::Refused(4, 0);
+        return Err(Refusal::Head);
     }
-    open_records(v, tables_of(c), c)
+    let tables = tables_of(counts);
+    open_records(&Records {
+        bytes: v,
+        counts,
+        tables,
+    })
 }
 
-// Opens a volume: its counts, or the first refusal with its place.
-pub fn open(v: &[u8]) -> Opening
+// Opens a volume: its counts, or the first refusal.
+pub fn open(v: &[u8]) -> Result<Counts, Refusal>
     ensures { result ≡ open_of v.now }
 {
     let size = v.len();
     if !is_whole(size) {
-        return Opening::Refused(1, 0);
+        return Err(Refusal::Length);
     }
     let blocks = size / 512;
-    let bad = first_bad(v, blocks);
-    if bad != blocks {
-        return Opening::Refused(2, bad as u64);
+    if let Some(bad) = first_bad(v, blocks) {
+        return Err(Refusal::Sums(bad));
     }
     let edition = content(v, 0);
     if edition != 1 {
-        return Opening::Refused(3, 0);
+        return Err(Refusal::Edition);
     }
     open_counts(v, blocks)
+}
+
+// Opens a volume for whoever asks more of it than its counts.
+pub fn read(v: &[u8]) -> Result<Opened<'_>, Refusal>
+    ensures ok { IfOk result (λ opened. (open_of v.now ≡ Ok opened.records.counts) × (opened.records.bytes.now ≡ v.now)) }
+    ensures err { IfErr result (λ why. open_of v.now ≡ Err why) }
+{
+    let counts = open(v)?;
+    let records = Records {
+        bytes: v,
+        counts,
+        tables: tables_of(counts),
+    };
+    Ok(Opened { records })
 }

@@ -11,15 +11,15 @@ pub returns-then-content-ne0 : goal.returns-then-content-ne0
 unfolding filler_zero
 returns-then-content-ne0 c =
     let a = c.args in
-    sym (all_stop (zeroAt a.v.now a.words) (126 * a.blocks - a.words) c.loop-i.i (search rules) (ne_eqb _ _ (λ z. c.if-content-ne0.true (c.content.ensures ∙ z))) c.loop-i.invariant.1)
+    sym (all_stop (zeroAt a.v.now a.words) (126 * a.blocks - a.words) c.loop-i.i (search rules) (ne_eqb _ _ (λ z. c.if-content-ne0.true (c.content.ensures ∙ z))) c.loop-i.invariant)
 
 pub loop-i-preserved : goal.loop-i-preserved
 loop-i-preserved c =
     let a = c.args in
-    (search rules, first_go (zeroAt a.v.now a.words) (126 * a.blocks - a.words) c.loop-i.i (search rules) (eq-eqb _ _ (sym c.content.ensures ∙ c.if-content-ne0.false)) c.loop-i.invariant.1)
+    first_go (zeroAt a.v.now a.words) (126 * a.blocks - a.words) c.loop-i.i (search rules) (eq-eqb _ _ (sym c.content.ensures ∙ c.if-content-ne0.false)) c.loop-i.invariant
 
 pub returns : goal.returns
 unfolding filler_zero
 returns c =
     let a = c.args in
-    sym (all_end (zeroAt a.v.now a.words) (126 * a.blocks - a.words) c.loop-i.i (search rules) (search rules) c.loop-i.invariant.1)
+    sym (all_end (zeroAt a.v.now a.words) (126 * a.blocks - a.words) c.loop-i.i (search rules) (search rules) c.loop-i.invariant)

@@ -1,4 +1,5 @@
-use mathlib.Core.Path.{sym, ◌∙◌}
+use mathlib.Core.Path.{refl, sym, ◌∙◌}
+use Rattle.block.specs.First.{below_found, below_nothing}
 use native.Mathlib.Omega.{arith}
 use Rattle.volume.specs.Open.{open_length, open_block, open_edition, open_rest}
 use Rattle.records.specs.Format.{volume_of}
@@ -8,14 +9,15 @@ use Rattle.volume.proofs.open.Goals as goal
 pub returns-then-not-is_whole : goal.returns-then-not-is_whole
 returns-then-not-is_whole c = sym (open_length _ (sym c.is_whole.ensures ∙ c.if-not-is_whole.true))
 
-pub first_bad-bad-requires : goal.first_bad-bad-requires
-first_bad-bad-requires c =
+pub first_bad-requires : goal.first_bad-requires
+first_bad-requires c =
     let w = whole_fact _ (sym c.is_whole.ensures ∙ c.if-not-is_whole.false) in omega arith
 
-pub returns-then-bad-blocks : goal.returns-then-bad-blocks
-returns-then-bad-blocks c =
+pub returns-in-Some : goal.returns-in-Some
+returns-in-Some c =
     let w = sym c.is_whole.ensures ∙ c.if-not-is_whole.false in
-    sym (open_block c.args.v.now w _ c.first_bad-bad.ensures.0 c.if-bad-blocks.true)
+    let f = below_found _ _ _ (sym c.in-Some.is ∙ c.first_bad.ensures) in
+    sym (open_block c.args.v.now w _ f.1 f.0)
 
 pub content-edition-requires : goal.content-edition-requires
 content-edition-requires c =
@@ -25,7 +27,7 @@ pub returns-then-edition-ne1 : goal.returns-then-edition-ne1
 unfolding volume_of
 returns-then-edition-ne1 c =
     let w = sym c.is_whole.ensures ∙ c.if-not-is_whole.false in
-    sym (open_edition c.args.v.now w _ c.first_bad-bad.ensures.0 c.if-bad-blocks.false _ c.content-edition.ensures c.if-edition-ne1.true)
+    sym (open_edition c.args.v.now w _ refl (below_nothing _ _ (sym c.in_default.is ∙ c.first_bad.ensures)) _ c.content-edition.ensures c.if-edition-ne1.true)
 
 pub open_counts-requires : goal.open_counts-requires
 open_counts-requires c =
@@ -37,4 +39,4 @@ unfolding volume_of
 returns c =
     let w = sym c.is_whole.ensures ∙ c.if-not-is_whole.false in
     c.open_counts.ensures
-    ∙ sym (open_rest c.args.v.now w _ c.first_bad-bad.ensures.0 c.if-bad-blocks.false _ c.content-edition.ensures c.if-edition-ne1.false)
+    ∙ sym (open_rest c.args.v.now w _ refl (below_nothing _ _ (sym c.in_default.is ∙ c.first_bad.ensures)) _ c.content-edition.ensures c.if-edition-ne1.false)

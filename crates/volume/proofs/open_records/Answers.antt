@@ -1,24 +1,33 @@
-use mathlib.Core.Path.{sym, ◌∙◌}
+use Rattle.std.proofs.Common.{◌≡◌, refl, sym, ◌∙◌}
+use Rattle.std.proofs.lemmas.Result.{err_from_is_err_and}
+use Rattle.records.specs.declared.tables.Counts.{Counts}
+use Rattle.records.specs.Format.{Volume, volume_of, counts_of, Counted}
 use Rattle.volume.specs.OpenSteps.{pass_faulty, pass_whole, records_road, records_edge, records_fine}
-use Rattle.records.specs.Format.{volume_of}
 use Rattle.volume.proofs.open_records.Goals as goal
 
-pub returns-in-Fault : goal.returns-in-Fault
-returns-in-Fault c =
-    let vol = volume_of c.args.v.now in
-    let f = pass_faulty _ _ _ _ _ _ (sym c.in-Fault.is ∙ c.roads_pass-roads.ensures) in
-    sym (records_road vol _ f.0 f.1)
+-- counts that are the volume's, one by one
+counts_are : (vol : Volume) (c : Counts) → Counted vol c → c ≡ counts_of vol
+counts_are vol c n = rw (sym n.junctions, sym n.roads, sym n.points, sym n.edges, sym n.pieces) refl
 
-pub returns-in-Fault-edges : goal.returns-in-Fault-edges
-returns-in-Fault-edges c =
-    let vol = volume_of c.args.v.now in
-    let p = pass_whole _ _ _ _ _ (sym c.in_default.is ∙ c.roads_pass-roads.ensures) in
-    let f = pass_faulty _ _ _ _ _ _ (sym c.in-Fault-edges.is ∙ c.edges_pass-edges.ensures) in
-    sym (records_edge vol _ p f.0 f.1)
+pub returns-in_err-roads_pass : goal.returns-in_err-roads_pass
+returns-in_err-roads_pass c =
+    let vol = volume_of c.args.r.now.bytes.now in
+    let p = err_from_is_err_and c.from_residual.result c.from_residual.ensures.1 in
+    let f = pass_faulty _ _ _ _ _ _ _ (sym c.in_err-roads_pass.was ∙ c.roads_pass.ensures) in
+    rw (p.1, p.2) (sym (records_road vol _ f.0 f.1))
+
+pub returns-in_err-edges_pass : goal.returns-in_err-edges_pass
+returns-in_err-edges_pass c =
+    let vol = volume_of c.args.r.now.bytes.now in
+    let p = err_from_is_err_and c.from_residual-in_err-edges_pass.result c.from_residual-in_err-edges_pass.ensures.1 in
+    let w = pass_whole _ _ _ _ _ _ _ (sym c.in_ok-roads_pass.was ∙ c.roads_pass.ensures) in
+    let f = pass_faulty _ _ _ _ _ _ _ (sym c.in_err-edges_pass.was ∙ c.edges_pass.ensures) in
+    rw (p.1, p.2) (sym (records_edge vol _ w f.0 f.1))
 
 pub returns : goal.returns
 returns c =
-    let vol = volume_of c.args.v.now in
-    let p = pass_whole _ _ _ _ _ (sym c.in_default.is ∙ c.roads_pass-roads.ensures) in
-    let q = pass_whole _ _ _ _ _ (sym c.in_default-edges.is ∙ c.edges_pass-edges.ensures) in
-    sym (records_fine vol _ p q c.requires.c_value)
+    let r = c.args.r.now in
+    let vol = volume_of r.bytes.now in
+    let p = pass_whole _ _ _ _ _ _ _ (sym c.in_ok-roads_pass.was ∙ c.roads_pass.ensures) in
+    let q = pass_whole _ _ _ _ _ _ _ (sym c.in_ok-edges_pass.was ∙ c.edges_pass.ensures) in
+    sym (records_fine vol r.counts p q (counts_are vol r.counts r.counted))
