@@ -8,8 +8,8 @@ use Rattle.theory.specs.Pieces.{InForce}
 use Rattle.theory.proofs.Pieces.{edge_is, edge_bound, by_pieces}
 use Rattle.theory.specs.Unfold.{roads_by_piece, roads_of_edge}
 use Rattle.theory.proofs.Unfold.{unfold_is}
-use Rattle.records.specs.Format.{Volume}
-use Rattle.rules.specs.Rules.{longest, empty}
+use Rattle.records.specs.Format.{Volume, empty}
+use Rattle.rules.specs.Rules.{longest}
 use Rattle.volume.specs.Sound.{PairPiece, Sound}
 use Rattle.travel.specs.Network.{network_of, piece_at, piece_of, arrival, piece_arrival, roads_of, road_time, HasPiece, Enters}
 use Rattle.travel.specs.Network.{period_of, edges_of, in_force_of, piece_road, piece_pair, has_piece, road_at, pair_at, sound_network, bounded}

@@ -9,8 +9,8 @@ use native.Mathlib.Omega.{arith}
 use Rattle.block.specs.Choose.{choose, choose_yes, choose_no}
 use Rattle.theory.specs.Network.{Piece, road_of, pair_of, Network, by_piece, edge_arr, Fits, SoundNetwork, Spans, Bounded}
 use Rattle.theory.specs.Unfold.{roads_of_edge}
-use Rattle.records.specs.Format.{Volume}
-use Rattle.rules.specs.Rules.{longest, empty, second, duration, start}
+use Rattle.records.specs.Format.{Volume, empty}
+use Rattle.rules.specs.Rules.{longest, second, duration, start}
 use Rattle.volume.specs.Sound.{RoadPiece, PairPiece, Sound}
 use Rattle.travel.specs.Last.{last_le, last_is_last}
 use Rattle.travel.specs.Road.{road_duration}

@@ -4,8 +4,8 @@ use Rattle.std.specs.Prelude.{ℕ, ◌+◌, ◌%◌, ◌≤◌, ◌<◌, ◌≡�
 use Rattle.std.proofs.Math.Path.{ap, sym}
 use Rattle.std.proofs.Common.{◌∙◌, arith}
 use Rattle.std.proofs.Math.ListN.{length, length-append}
-use Rattle.records.specs.Format.{Volume}
-use Rattle.rules.specs.Rules.{empty, most_span}
+use Rattle.records.specs.Format.{Volume, empty}
+use Rattle.rules.specs.Rules.{most_span}
 use Rattle.volume.specs.Sound.{Sound}
 use Rattle.travel.specs.Network.{piece_at, road_time, arrival, roads_of}
 use Rattle.travel.specs.Halves.{InHand, edge_by_piece, road_arrives, halves_arrive, roads_one, roads_two, roads_few}

@@ -2,12 +2,12 @@
 // the sealed words. Of a road with one point, which takes as long at every second, it has the duration, of any other road 0; of an edge
 // the content word at which its pieces begin, and behind the last edge the one at which they end. The edges stand from the first place
 // on and the roads from the last place back, so that a list of any length serves that has a place more than there are roads and edges.
-ghost use Rattle.std.specs.Prelude.{◌≡◌, ◌+◌, ◌-◌, ◌^◌, ◌≤◌, ◌<◌, length, get_or};
-ghost use Rattle.records.specs.Format.{volume_of, Counted, Laid};
-ghost use Rattle.volume.specs.Sound.{Sound};
-ghost use Rattle.travel.specs.Digest.{steady_of, steady_back, pieces_from, listed, digest_of};
+ghost use Rattle.std.specs.Prelude.{◌≡◌, ◌+◌, ◌-◌, ◌^◌, ◌≤◌, ◌<◌, ◌≢◌, length, MatchOption};
+ghost use Rattle.records.specs.Format.{volume_of};
+ghost use Rattle.travel.specs.Digest.{steady_of, steady_back, pieces_from, listed, digest_of, Digest};
 
-use records::tables::{Counts, PIECE_WORDS, Tables, edge_pieces, point_at, road_at};
+use records::tables::PIECE_WORDS;
+use volume::sound::Opened;
 
 // How long the list of a digest is where a volume has few roads and edges, and where it may have as many as it can.
 pub const SHORT: usize = 1024;
@@ -15,75 +15,76 @@ pub const SHORT: usize = 1024;
 pub const LONG: usize = 4096 + 16384 + 1;
 
 // The duration of road k where it has one point, else 0.
-fn steady(v: &[u8], t: Tables, k: usize) -> u64
-    requires laid { Laid v.now t }
-    requires sound { Sound (volume_of v.now) }
-    requires k_bound { k < (volume_of v.now).roads }
-    ensures { (result ≡ steady_of (volume_of v.now) k) × (result < 2 ^ 32) }
+fn steady(opened: &Opened<'_>, k: usize) -> u64
+    requires { k < (volume_of opened.now.records.bytes.now).roads }
+    ensures { (result ≡ steady_of (volume_of opened.now.records.bytes.now) k) × (result < 2 ^ 32) }
 {
-    let road = road_at(v, t, k);
+    let road = opened.records.road(k);
     if road.points == 1 {
-        return point_at(v, t, road.first).duration;
+        return opened.records.point(road.first).duration;
     }
     0
 }
 
 // Writes the roads, of which the last stands first.
-fn list_roads(v: &[u8], t: Tables, roads: usize, digest: &mut [u32])
-    requires laid { Laid v.now t }
-    requires sound { Sound (volume_of v.now) }
-    requires roads_value { (roads ≡ (volume_of v.now).roads) × (roads ≤ length digest.old) }
-    ensures { digest.new ≡ listed (length digest.old - roads) (steady_back (volume_of v.now)) roads digest.old }
+fn list_roads(opened: &Opened<'_>, digest: &mut [u32])
+    requires { opened.now.records.counts.roads ≤ length digest.old }
+    ensures { digest.new ≡ listed (length digest.old - opened.now.records.counts.roads) (steady_back (volume_of opened.now.records.bytes.now)) opened.now.records.counts.roads digest.old }
 {
+    let roads = opened.records.counts.roads;
     let begin = digest.len() - roads;
-    let mut i: usize = 0;
-    while i < roads {
-        digest[begin + i] = steady(v, t, roads - 1 - i) as u32;
-        i += 1;
+    for i in 0..roads {
+        digest[begin + i] = steady(opened, roads - 1 - i) as u32;
     }
 }
 
 // Writes the edges: the pieces of each begin where those of the edge before end.
-fn list_edges(v: &[u8], t: Tables, edges: usize, digest: &mut [u32])
-    requires laid { Laid v.now t }
-    requires sound { Sound (volume_of v.now) }
-    requires edges_value { (edges ≡ (volume_of v.now).edges) × (edges < length digest.old) }
-    ensures { digest.new ≡ listed 0 (pieces_from (volume_of v.now)) (edges + 1) digest.old }
+fn list_edges(opened: &Opened<'_>, digest: &mut [u32])
+    requires { opened.now.records.counts.edges < length digest.old }
+    ensures { digest.new ≡ listed 0 (pieces_from (volume_of opened.now.records.bytes.now)) (opened.now.records.counts.edges + 1) digest.old }
 {
-    let mut word = t.pieces;
+    let mut word = opened.records.tables.pieces;
     digest[0] = word as u32;
-    let mut e: usize = 0;
-    while e < edges {
-        word += PIECE_WORDS * edge_pieces(v, t, e);
-        e += 1;
-        digest[e] = word as u32;
+    for e in 0..opened.records.counts.edges {
+        word += PIECE_WORDS * opened.records.edge(e).pieces;
+        digest[e + 1] = word as u32;
     }
 }
 
 // Writes the digest.
-pub fn make_digest(v: &[u8], t: Tables, c: Counts, digest: &mut [u32])
-    requires laid { Laid v.now t }
-    requires sound { Sound (volume_of v.now) }
-    requires counted { Counted (volume_of v.now) c }
-    requires roads_in_bounds { c.edges + c.roads < length digest.old }
-    ensures { digest.new ≡ digest_of (volume_of v.now) digest.old }
+pub fn make_digest(opened: &Opened<'_>, digest: &mut [u32])
+    requires { opened.now.records.counts.edges + opened.now.records.counts.roads < length digest.old }
+    ensures { digest.new ≡ digest_of (volume_of opened.now.records.bytes.now) digest.old }
 {
-    list_edges(v, t, c.edges, digest);
-    list_roads(v, t, c.roads, digest);
+    list_edges(opened, digest);
+    list_roads(opened, digest);
 }
 
-// What the digest has of road k.
-pub fn steady_at(digest: &[u32], k: usize) -> u64
-    requires { k < length digest.now }
-    ensures { result ≡ get_or digest.now (length digest.now - 1 - k) 0 }
-{
-    digest[digest.len() - 1 - k] as u64
+// A volume that has opened, with its digest in a list that someone lends.
+#[derive(Clone, Copy)]
+pub struct Timetable<'a> {
+    pub opened: Opened<'a>,
+    pub digest: &'a [u32],
+    pub ghost told: { Digest (volume_of opened.records.bytes.now) digest.now },
 }
 
-// What the digest has of edge e.
-pub fn pieces_at(digest: &[u32], e: usize) -> usize
-    requires { e < length digest.now }
-    ensures { (result ≡ get_or digest.now e 0) × (result < 2 ^ 32) }
-{
-    digest[e] as usize
+impl Timetable<'_> {
+    // The duration of road k, if the digest has it.
+    pub fn steady(&self, k: usize) -> Option<u64>
+        requires { k < (volume_of self.now.opened.records.bytes.now).roads }
+        ensures { MatchOption result (steady_of (volume_of self.now.opened.records.bytes.now) k ≡ 0) (λ d. (d ≡ steady_of (volume_of self.now.opened.records.bytes.now) k) × (d ≢ 0)) }
+    {
+        match self.digest[self.digest.len() - 1 - k] {
+            0 => None,
+            d => Some(d as u64),
+        }
+    }
+
+    // The content word at which the pieces of edge e begin, or at which the last pieces end.
+    pub fn pieces(&self, e: usize) -> usize
+        requires { e ≤ (volume_of self.now.opened.records.bytes.now).edges }
+        ensures { (result ≡ pieces_from (volume_of self.now.opened.records.bytes.now) e) × (result < 2 ^ 32) }
+    {
+        self.digest[e] as usize
+    }
 }

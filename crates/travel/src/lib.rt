@@ -2,18 +2,17 @@
 // "Travel time", and to its sentences on the unfolded path. What a volume holds is the crate `records`'.
 #![tactic(auto)]
 
-ghost use Rattle.std.specs.Prelude.{◌≡◌, ◌+◌, ◌<◌, length};
-ghost use Rattle.records.specs.Format.{volume_of, Counted, Laid};
-ghost use Rattle.volume.specs.Sound.{Sound};
+ghost use Rattle.std.specs.Prelude.{◌≡◌, ◌+◌, ◌≤◌, ◌<◌};
+ghost use Rattle.records.specs.Format.{volume_of};
 ghost use Rattle.travel.specs.Network.{Enters, arrival};
 ghost use Rattle.travel.specs.Times.{road_time_of, edge_time_of};
 
-use crate::digest::{LONG, SHORT, make_digest};
-use crate::edge::edge_duration;
+use crate::digest::{LONG, SHORT, Timetable, make_digest};
 use crate::path::count_roads;
 use crate::road::road_duration;
-use records::tables::{Counts, Tables, edge_span, tables_of};
-use volume::{Opening, open};
+use block::refusal::Refusal;
+use volume::read;
+use volume::sound::Opened;
 
 pub mod digest;
 pub mod edge;
@@ -21,76 +20,58 @@ pub mod last;
 pub mod path;
 pub mod road;
 
-#[derive(Clone, Copy)]
-pub enum Timing {
-    Lasts(u64),
-    Refused(u32, u64),
-}
-
 // How long a road takes, entered at any departure.
-pub fn road_time(v: &[u8], road: u32, departure: u32) -> Timing
+pub fn road_time(v: &[u8], road: u32, departure: u32) -> Result<u64, Refusal>
     ensures { result ≡ road_time_of v.now road departure }
 {
-    let opening = open(v);
-    match opening {
-        Opening::Refused(number, place) => Timing::Refused(number, place),
-        Opening::Opened(c) => {
-            let k = road as usize;
-            if c.roads <= k {
-                return Timing::Refused(7, 0);
-            }
-            Timing::Lasts(road_duration(v, tables_of(c), k, departure as u64))
-        }
+    let opened = read(v)?;
+    let k = road as usize;
+    if opened.records.counts.roads <= k {
+        return Err(Refusal::Unknown);
     }
+    Ok(road_duration(&opened, k, departure as u64))
 }
 
-// The duration of edge e for who enters it at x, by a digest in a list that has room for it.
-fn edge_digested(v: &[u8], t: Tables, c: Counts, e: usize, x: u64, digest: &mut [u32]) -> u64
-    requires laid { Laid v.now t }
-    requires sound { Sound (volume_of v.now) }
-    requires counted { Counted (volume_of v.now) c }
-    requires enters { Enters (volume_of v.now) e x }
-    requires roads_in_bounds { c.edges + c.roads < length digest.old }
-    ensures { x + result ≡ arrival (volume_of v.now) e x }
+// The duration of edge e for who enters it at x, by a digest in a list of N numbers.
+fn edge_digested<const N: usize>(opened: &Opened<'_>, e: usize, x: u64) -> u64
+    requires enters { Enters (volume_of opened.now.records.bytes.now) e x }
+    requires n_bound { (opened.now.records.counts.edges + opened.now.records.counts.roads < N) × (N ≤ LONG) }
+    ensures { x + result ≡ arrival (volume_of opened.now.records.bytes.now) e x }
 {
-    make_digest(v, t, c, digest);
-    edge_duration(v, digest, e, x)
+    let mut digest = [0u32; N];
+    make_digest(opened, &mut digest);
+    let times = Timetable {
+        opened: *opened,
+        digest: &digest,
+    };
+    times.edge_duration(e, x)
 }
 
 // The same for any edge. A short one is unfolded where its pieces stand, since a digest of all roads and edges would take longer than
 // the walk itself: making a short list takes what a digest saves for 16 roads, and 16 edges are listed in what it saves for one more. Few
 // roads and edges get a short list.
-fn edge_lasts(v: &[u8], t: Tables, c: Counts, e: usize, x: u64) -> u64
-    requires laid { Laid v.now t }
-    requires sound { Sound (volume_of v.now) }
-    requires counted { Counted (volume_of v.now) c }
-    requires enters { Enters (volume_of v.now) e x }
-    ensures { x + result ≡ arrival (volume_of v.now) e x }
+fn edge_lasts(opened: &Opened<'_>, e: usize, x: u64) -> u64
+    requires { Enters (volume_of opened.now.records.bytes.now) e x }
+    ensures { x + result ≡ arrival (volume_of opened.now.records.bytes.now) e x }
 {
-    if 16 * edge_span(v, t, e) <= c.edges + 256 {
-        return count_roads(v, t, e, x).duration;
+    let counts = opened.records.counts;
+    if 16 * opened.records.edge(e).span <= counts.edges + 256 {
+        count_roads(opened, e, x).duration
+    } else if counts.edges + counts.roads < SHORT {
+        edge_digested::<SHORT>(opened, e, x)
+    } else {
+        edge_digested::<LONG>(opened, e, x)
     }
-    if c.edges + c.roads < SHORT {
-        let mut digest = [0u32; SHORT];
-        return edge_digested(v, t, c, e, x, &mut digest);
-    }
-    let mut digest = [0u32; LONG];
-    edge_digested(v, t, c, e, x, &mut digest)
 }
 
 // How long an edge takes, entered at any departure.
-pub fn edge_time(v: &[u8], edge: u32, departure: u32) -> Timing
+pub fn edge_time(v: &[u8], edge: u32, departure: u32) -> Result<u64, Refusal>
     ensures { result ≡ edge_time_of v.now edge departure }
 {
-    let opening = open(v);
-    match opening {
-        Opening::Refused(number, place) => Timing::Refused(number, place),
-        Opening::Opened(c) => {
-            let e = edge as usize;
-            if c.edges <= e {
-                return Timing::Refused(7, 0);
-            }
-            Timing::Lasts(edge_lasts(v, tables_of(c), c, e, departure as u64))
-        }
+    let opened = read(v)?;
+    let e = edge as usize;
+    if opened.records.counts.edges <= e {
+        return Err(Refusal::Unknown);
     }
+    Ok(edge_lasts(&opened, e, departure as u64))
 }

@@ -1,65 +1,36 @@
-use Prim.Native.Nat.{◌-◌}
-use mathlib.Core.Path.{subst, ap, sym, ◌∙◌}
-use native.Mathlib.Omega.{arith}
-use borrow.Author.Tests.{lt-ltb, le-ltb}
-use Rattle.records.specs.Format.{Laid, volume_of}
-use Rattle.records.specs.declared.tables.Tables.{Tables}
-use Rattle.travel.specs.declared.Timing.TheVariants.{Lasts}
-use Rattle.travel.specs.Times.{opening, timed, edge_time_of}
-use Rattle.travel.specs.Network.{arrival}
-use Rattle.volume.specs.declared.Opening.{Opening}
-use Rattle.volume.specs.Opened.{opened}
+use Rattle.std.proofs.Common.{◌-◌, ◌<◌, ◌≤◌, ◌≡◌, refl, sym, ◌∙◌, ap, arith, lt-ltb, le-ltb, Ok}
+use Rattle.std.proofs.lemmas.Result.{err_from_is_err_and}
 use Rattle.block.specs.Choose.{choose_yes, choose_no}
+use Rattle.records.specs.Format.{volume_of}
+use Rattle.travel.specs.Network.{arrival}
+use Rattle.travel.specs.Times.{edge_time_of}
 use Rattle.travel.proofs.edge_time.Goals as goal
 
-pub returns-then-c-e : goal.returns-then-c-e
+pub returns-in_err-opened : goal.returns-in_err-opened
 unfolding edge_time_of
-returns-then-c-e c =
-    let a = c.args in
-    let vol = volume_of a.v.now in
-    let is = sym c.in-Opened.is ∙ c.open-opening.ensures in
-    let o = opened a.v.now _ (sym is) in
-    sym (choose_no _ _ (le-ltb a.edge vol.edges (omega (arith, o.counted.edges))))
-    ∙ ap (λ (p : Opening). opening p (timed vol.edges a.edge (arrival vol a.edge a.departure - a.departure))) is
+returns-in_err-opened c =
+    let p = err_from_is_err_and c.from_residual.result c.from_residual.ensures.1 in rw (p.1, p.2, c.in_err-opened.ensures.err) refl
 
-pub tables_of-requires : goal.tables_of-requires
-tables_of-requires c =
-    (opened c.args.v.now _ (sym c.open-opening.ensures ∙ c.in-Opened.is)).few
-
-pub edge_lasts-requires-clause-laid : goal.edge_lasts-requires-clause-laid
-edge_lasts-requires-clause-laid c =
-    let o = opened c.args.v.now _ (sym c.open-opening.ensures ∙ c.in-Opened.is) in
-    subst (λ (t : Tables). Laid c.args.v.now t) (sym c.tables_of.ensures) o.laid
-
-pub edge_lasts-requires-clause-sound : goal.edge_lasts-requires-clause-sound
-edge_lasts-requires-clause-sound c =
-    let o = opened c.args.v.now _ (sym c.open-opening.ensures ∙ c.in-Opened.is) in
-    o.sound
-
-pub edge_lasts-requires-clause-counted : goal.edge_lasts-requires-clause-counted
-edge_lasts-requires-clause-counted c =
-    let o = opened c.args.v.now _ (sym c.open-opening.ensures ∙ c.in-Opened.is) in
-    o.counted
-
-pub edge_lasts-requires-clause-enters : goal.edge_lasts-requires-clause-enters
-edge_lasts-requires-clause-enters c =
-    let o = opened c.args.v.now _ (sym c.open-opening.ensures ∙ c.in-Opened.is) in
-    record { there = omega (arith, o.counted.edges); fits = omega (arith, (o.sound.edge c.args.edge (omega (arith, o.counted.edges))).span) }
-
-pub returns-in-Refused : goal.returns-in-Refused
+pub returns-then-opened-e : goal.returns-then-opened-e
 unfolding edge_time_of
-returns-in-Refused c =
-    let a = c.args in
-    let vol = volume_of a.v.now in
-    ap (λ (p : Opening). opening p (timed vol.edges a.edge (arrival vol a.edge a.departure - a.departure))) (sym c.in-Refused.is ∙ c.open-opening.ensures)
+returns-then-opened-e c =
+    let ok = c.in_ok-opened.ensures.ok in
+    let none : (volume_of c.args.v.now).edges ≤ c.args.edge =
+    rw (← ok.1) (omega (arith, c.in_ok-opened.opened.records.counted.edges)) in
+    rw ok.0 (sym (choose_no _ _ (le-ltb _ _ none)))
 
-pub returns-else-c-e : goal.returns-else-c-e
+pub edge_lasts-requires : goal.edge_lasts-requires
+edge_lasts-requires c =
+    let o = c.in_ok-opened.opened in
+    let n = o.records.counted.edges in
+    record { there = omega arith; fits = omega (arith, (o.sound.edge c.args.edge (omega arith)).span) }
+
+pub returns : goal.returns
 unfolding edge_time_of
-returns-else-c-e c =
-    let a = c.args in
-    let vol = volume_of a.v.now in
-    let is = sym c.in-Opened.is ∙ c.open-opening.ensures in
-    let o = opened a.v.now _ (sym is) in
-    ap Lasts (let d = c.edge_lasts.ensures in omega arith)
-    ∙ sym (choose_yes _ _ (lt-ltb a.edge vol.edges (omega (arith, o.counted.edges))))
-    ∙ ap (λ (p : Opening). opening p (timed vol.edges a.edge (arrival vol a.edge a.departure - a.departure))) is
+returns c =
+    let ok = c.in_ok-opened.ensures.ok in
+    let there : c.args.edge < (volume_of c.args.v.now).edges =
+    rw (← ok.1) (omega (arith, c.in_ok-opened.opened.records.counted.edges)) in
+    let arrives = rw ok.1 at c.edge_lasts.ensures in
+    let lasts : c.edge_lasts.result ≡ arrival (volume_of c.args.v.now) c.args.edge c.args.departure - c.args.departure = omega arith in
+    rw ok.0 (ap Ok lasts ∙ sym (choose_yes _ _ (lt-ltb _ _ there)))

@@ -5,12 +5,12 @@ use Rattle.travel.proofs.edge.word_in_force.Goals as goal
 
 pub returns-then-at-end : goal.returns-then-at-end
 returns-then-at-end c =
-    one_word c.requires.laid_out c.requires.sound c.args.e _ _ c.requires.e_bound c.requires.stands c.args.x c.if-at-end.true
+    one_word c.args.opened.now.records.laid c.args.opened.now.sound c.args.e _ _ c.requires.e_bound c.requires.stands c.args.x c.if-at-end.true
 
 pub last_at-requires : goal.last_at-requires
 last_at-requires c =
-    words_row c.requires.laid_out c.requires.sound c.args.e _ _ c.requires.e_bound c.requires.stands _
+    words_row c.args.opened.now.records.laid c.args.opened.now.sound c.args.e _ _ c.requires.e_bound c.requires.stands _
 
 pub returns : goal.returns
 returns c =
-    word_last c.requires.laid_out c.requires.sound c.args.e _ _ c.requires.e_bound c.requires.stands c.args.x _ _ (same_second c.args.x (period_is c.args.v.now)) c.last_at.ensures
+    word_last c.args.opened.now.records.laid c.args.opened.now.sound c.args.e _ _ c.requires.e_bound c.requires.stands c.args.x _ _ (same_second c.args.x (period_is c.args.opened.now.records.bytes.now)) c.last_at.ensures

@@ -1,5 +1,5 @@
-use Prim.Native.Nat.{◌+◌, ◌*◌}
-use Rattle.travel.proofs.edge.+piece_duration_pieces_duration.Given as goal
+use Rattle.std.proofs.Common.{◌+◌, ◌*◌}
+use Rattle.travel.proofs.digest.Timetable.+piece_duration_pieces_duration.Given as goal
 
 abbrev pub decreases-piece_duration : goal.decreases-piece_duration
 decreases-piece_duration l = 2 * l.e
