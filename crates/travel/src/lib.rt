@@ -19,6 +19,7 @@ pub mod edge;
 pub mod last;
 pub mod path;
 pub mod road;
+pub mod roadmap;
 
 // How long a road takes, entered at any departure.
 pub fn road_time(v: &[u8], road: u32, departure: u32) -> Result<u64, Refusal>

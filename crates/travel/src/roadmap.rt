@@ -1,0 +1,45 @@
+// A volume for whoever walks it from edge to edge: the edges of each junction, and the times.
+ghost use Rattle.std.specs.Prelude.{◌≡◌, ◌+◌, ◌<◌};
+ghost use Rattle.records.specs.Format.{volume_of};
+ghost use Rattle.records.specs.Index.{Linked, next_from};
+
+use crate::digest::Timetable;
+use records::index::Index;
+
+// The times of an opened volume, with the index of its edges in lists that someone lends.
+#[derive(Clone, Copy)]
+pub struct Roadmap<'a> {
+    pub times: Timetable<'a>,
+    pub first: &'a [u16],
+    pub next: &'a [u16],
+    pub ghost linked: { Linked (volume_of times.opened.records.bytes.now) first.now next.now },
+}
+
+impl Roadmap<'_> {
+    fn index(&self) -> Index<'_>
+        ensures { result.records.bytes.now ≡ self.now.times.opened.records.bytes.now }
+    {
+        Index {
+            records: self.times.opened.records,
+            first: self.first,
+            next: self.next,
+        }
+    }
+
+    // The first edge from junction u, or E.
+    pub fn first(&self, u: usize) -> usize
+        requires { u < (volume_of self.now.times.opened.records.bytes.now).junctions }
+        ensures { result ≡ next_from (volume_of self.now.times.opened.records.bytes.now) u 0 }
+    {
+        self.index().first(u)
+    }
+
+    // The edge after e from the same junction, or E.
+    pub fn next(&self, e: usize) -> usize
+        requires e_bound { e < (volume_of self.now.times.opened.records.bytes.now).edges }
+        requires from_bound { (volume_of self.now.times.opened.records.bytes.now).edge_from e < (volume_of self.now.times.opened.records.bytes.now).junctions }
+        ensures { result ≡ next_from (volume_of self.now.times.opened.records.bytes.now) ((volume_of self.now.times.opened.records.bytes.now).edge_from e) (e + 1) }
+    {
+        self.index().next(e)
+    }
+}
