@@ -1,5 +1,7 @@
 -- The document's number and place of each refusal.
-use Rattle.std.specs.Prelude.{ℕ}
+use Rattle.std.specs.Prelude.{ℕ, zero, suc, ◌≡◌, refl}
+use Rattle.std.proofs.Common.{sym, ◌∙◌}
+use Rattle.std.proofs.Math.Path.{ap₂}
 use Rattle.block.specs.declared.refusal.Refusal.{Refusal}
 use Rattle.block.specs.declared.refusal.Refusal.TheVariants.{Length, Sums, Edition, Head, Road, Edge, Unknown, UnknownDestination, Work, Path, Arrival}
 
@@ -30,3 +32,35 @@ place_of UnknownDestination = 1
 place_of Work = 0
 place_of (Path n) = n
 place_of Arrival = 0
+
+-- a refusal back from its number and place
+abbrev pub refusal_by : ℕ → ℕ → Refusal
+refusal_by zero place = Length
+refusal_by (suc zero) place = Length
+refusal_by (suc (suc zero)) place = Sums place
+refusal_by (suc (suc (suc zero))) place = Edition
+refusal_by (suc (suc (suc (suc zero)))) place = Head
+refusal_by (suc (suc (suc (suc (suc zero))))) place = Road place
+refusal_by (suc (suc (suc (suc (suc (suc zero)))))) place = Edge place
+refusal_by (suc (suc (suc (suc (suc (suc (suc zero))))))) zero = Unknown
+refusal_by (suc (suc (suc (suc (suc (suc (suc zero))))))) (suc place) = UnknownDestination
+refusal_by (suc (suc (suc (suc (suc (suc (suc (suc zero)))))))) place = Work
+refusal_by (suc (suc (suc (suc (suc (suc (suc (suc (suc zero))))))))) place = Path place
+refusal_by (suc (suc (suc (suc (suc (suc (suc (suc (suc (suc n)))))))))) place = Arrival
+
+pub refusal_back : (why : Refusal) → refusal_by (number_of why) (place_of why) ≡ why
+refusal_back Length = refl
+refusal_back (Sums k) = refl
+refusal_back Edition = refl
+refusal_back Head = refl
+refusal_back (Road k) = refl
+refusal_back (Edge e) = refl
+refusal_back Unknown = refl
+refusal_back UnknownDestination = refl
+refusal_back Work = refl
+refusal_back (Path n) = refl
+refusal_back Arrival = refl
+
+-- no two refusals have the same number and place
+pub refusals_tell : (a b : Refusal) → number_of a ≡ number_of b → place_of a ≡ place_of b → a ≡ b
+refusals_tell a b e f = sym (refusal_back a) ∙ ap₂ refusal_by e f ∙ refusal_back b

@@ -1,7 +1,7 @@
 -- Demand 3 as a customer reads it: on a volume for which the check says full. `verdict_of` is what `full::check` answers, and `Searched` is
 -- the contract of `search::search`. What holds on every volume that opens, full or not, stands in the search's own Promises: the path, more
 -- budget, and that 2N - 1 units finish.
-use Rattle.std.specs.Prelude.{ℕ, ◌≤◌, ◌≡◌, List, length}
+use Rattle.std.specs.Prelude.{ℕ, ◌≤◌, ◌≡◌, None, List, length}
 use Rattle.std.proofs.Common.{ap}
 use Rattle.theory.specs.Ways.{Way, LeastArrival}
 use Rattle.theory.specs.Network.{Roads, FullDay}
@@ -14,7 +14,7 @@ use Rattle.full.specs.Fault.{verdict_of}
 use Rattle.full.specs.Paper.{paper}
 use Rattle.full.specs.Means.{Opens}
 use Rattle.full.proofs.Promises.{full_exactly}
-use Rattle.full.specs.declared.Verdict.TheVariants.{Full}
+use Rattle.full.specs.declared.Verdict.TheVariants.{Checked}
 use Rattle.search.specs.Answer.{Searched, path_told, ruled, number}
 use Rattle.search.specs.Tells.{said}
 use Rattle.search.specs.Promises as Search
@@ -22,7 +22,7 @@ use Rattle.search.specs.Promises.{network}
 use Rattle.search.specs.declared.Answer.{Answer}
 use Rattle.search.specs.declared.Answer.TheVariants.{Closed, NoWay, Open}
 
-module _ (v : List ℕ) (passes : verdict_of v ≡ Full) where
+module _ (v : List ℕ) (passes : verdict_of v ≡ Checked None) where
   -- what the check's answer says
   opens : Opens v
   opens = ((full_exactly v).0 (ap paper passes)).0

@@ -1,11 +1,14 @@
 -- The number and the values that tell each answer of the face, as host/breezeflint.h says them.
-use Rattle.std.specs.Prelude.{ℕ, List, [], ◌∷◌}
+use Rattle.std.specs.Prelude.{ℕ, ◌≡◌, refl, List, [], ◌∷◌, Option, Some, None}
 use Rattle.block.specs.Seal.{sealing, paper}
 use Rattle.volume.specs.declared.Opening.{Opening}
 use Rattle.volume.specs.declared.Opening.TheVariants.{Opened, Refused as NotOpened}
 use Rattle.travel.specs.declared.Timing.{Timing}
 use Rattle.travel.specs.declared.Timing.TheVariants.{Lasts, Refused as NotTimed}
+use Rattle.full.specs.declared.Fault.{Fault}
+use Rattle.full.specs.declared.Fault.TheVariants.{RoadMissing, RoadLate, PairMissing, PairLate}
 use Rattle.full.specs.declared.Verdict.{Verdict}
+use Rattle.full.specs.declared.Verdict.TheVariants.{Checked}
 use Rattle.full.specs.Paper.{Paper, found, refusal, paper as onPaper}
 use Rattle.settle.specs.declared.Upper.{Upper}
 use Rattle.settle.specs.declared.Upper.TheVariants.{At, Missing}
@@ -45,6 +48,14 @@ paper_told (refusal number place) = refused number place
 
 abbrev pub verdict_told : Verdict → Told
 verdict_told verdict = paper_told (onPaper verdict)
+
+-- whatever is found, the check returns 0
+pub checked_number : (found : Option Fault) → 0 ≡ (verdict_told (Checked found)).number
+checked_number None = refl
+checked_number (Some (RoadMissing k)) = refl
+checked_number (Some (RoadLate k x)) = refl
+checked_number (Some (PairMissing l r)) = refl
+checked_number (Some (PairLate l r x)) = refl
 
 -- a window: lower end, 1 or 0 for whether there is an upper end, the upper end or 0, used
 abbrev pub window_told : ℕ → Upper → ℕ → Told

@@ -1,6 +1,6 @@
 -- The fault that is found first is the one that holds, on a sound volume; and no other holds. First one road and one pair, then a whole
 -- volume, then any bytes.
-use Rattle.std.specs.Prelude.{ℕ, ◌<◌, ◌≡◌, ◌≢◌, Bool, List}
+use Rattle.std.specs.Prelude.{ℕ, ◌<◌, ◌≡◌, ◌≢◌, Bool, Option, Some, None, Result, Ok, Err, List}
 use Rattle.std.proofs.Math.Path.{refl, ap, sym}
 use Rattle.std.proofs.Common.{◌∙◌, arith}
 use Rattle.std.proofs.Math.Bool.{true, false, not}
@@ -11,46 +11,46 @@ use Rattle.theory.specs.Network.{road_of, pair_of, FullDay}
 use Rattle.records.specs.Format.{Volume, volume_of}
 use Rattle.volume.specs.Open.{open_of}
 use Rattle.volume.specs.Opened.{opened}
-use Rattle.volume.specs.declared.Opening.{Opening}
-use Rattle.volume.specs.declared.Opening.TheVariants as opening
+use Rattle.block.specs.declared.refusal.Refusal.{Refusal}
+use Rattle.records.specs.declared.tables.Counts.{Counts}
 use Rattle.volume.specs.Sound.{Sound}
 use Rattle.travel.specs.Network.{network_of}
 use Rattle.full.specs.Cover.{cover_of}
-use Rattle.full.specs.Fault.{is_full, of_road, of_pair, is_pair, road_fault, pair_fault, roads_fault, rights_fault, lefts_fault, fault_of, verdict_of}
+use Rattle.full.specs.Fault.{is_full, of_road, of_pair, is_pair, road_fault, pair_fault, roads_fault, rights_fault, lefts_fault, fault_of, Verdict, verdict_of}
 use Rattle.full.specs.FaultRow.{full_is, not_full, fault_none, row_full, row_found, row_is}
 use Rattle.full.specs.FaultFound.{pair_yes, no_pair, pair_fault_lem, verdict_refused, verdict_opened}
 use Rattle.full.proofs.FaultFound.{faults_road, faults_pair}
 use Rattle.full.specs.Means.{RoadSays, PairSays, Pair, RoadsFine, PairsFine, RoadFirst, PairFirst, Says, Opens, Means}
 use Rattle.full.specs.CoverMeans.{cover_says, cover_is}
-use Rattle.full.specs.declared.cover.Cover.{Cover}
-use Rattle.full.specs.declared.cover.Cover.TheVariants.{Missing, Late, Fine}
-use Rattle.full.specs.declared.Verdict.{Verdict}
-use Rattle.full.specs.declared.Verdict.TheVariants.{Full, RoadMissing, RoadLate, PairMissing, PairLate, Refused}
+use Rattle.full.specs.declared.cover.Flaw.{Flaw}
+use Rattle.full.specs.declared.cover.Flaw.TheVariants.{Missing, Late}
+use Rattle.full.specs.declared.Fault.{Fault}
+use Rattle.full.specs.declared.Fault.TheVariants.{RoadMissing, RoadLate, PairMissing, PairLate}
 
 -- a road without a fault is covered
-of_road_lem : (k : ℕ) (c : Cover) → of_road k c ≡ Full → c ≡ Fine
-of_road_lem k Missing e = absurd (not_full (RoadMissing k) refl e)
-of_road_lem k (Late x) e = absurd (not_full (RoadLate k x) refl e)
-of_road_lem k Fine e = refl
+of_road_lem : (k : ℕ) (c : Option Flaw) → of_road k c ≡ None → c ≡ None
+of_road_lem k None e = refl
+of_road_lem k (Some Missing) e = absurd (not_full (Some (RoadMissing k)) refl e)
+of_road_lem k (Some (Late x)) e = absurd (not_full (Some (RoadLate k x)) refl e)
 
 -- and a pair
-of_pair_lem : (l r : ℕ) (c : Cover) → of_pair l r c ≡ Full → c ≡ Fine
-of_pair_lem l r Missing e = absurd (not_full (PairMissing l r) refl e)
-of_pair_lem l r (Late x) e = absurd (not_full (PairLate l r x) refl e)
-of_pair_lem l r Fine e = refl
+of_pair_lem : (l r : ℕ) (c : Option Flaw) → of_pair l r c ≡ None → c ≡ None
+of_pair_lem l r None e = refl
+of_pair_lem l r (Some Missing) e = absurd (not_full (Some (PairMissing l r)) refl e)
+of_pair_lem l r (Some (Late x)) e = absurd (not_full (Some (PairLate l r x)) refl e)
 
 module _ (vol : Volume) where
   -- one road
 
   -- no fault is a cover
-  road_full : (k : ℕ) → road_fault vol k ≡ Full → RoadSays vol k Fine
+  road_full : (k : ℕ) → road_fault vol k ≡ None → RoadSays vol k None
   unfolding road_fault
   road_full k e =
       rw (of_road_lem k (cover_of vol (vol.road_from k) (vol.road_to k) (road_of k)) e)
       at (cover_says vol (vol.road_from k) (vol.road_to k) (road_of k))
 
   -- what holds is the fault
-  road_is : Sound vol → (k : ℕ) (c : Cover) → RoadSays vol k c → road_fault vol k ≡ of_road k c
+  road_is : Sound vol → (k : ℕ) (c : Option Flaw) → RoadSays vol k c → road_fault vol k ≡ of_road k c
   unfolding road_fault
   road_is S k c h = ap (of_road k) (cover_is vol (vol.road_from k) (vol.road_to k) (road_of k) S c h)
 
@@ -78,25 +78,25 @@ module _ (vol : Volume) where
   pair_test l r p = pair_yes vol l r p.meet p.differ p.below_from p.below_to
 
   -- no fault is a cover
-  pair_full : (l r : ℕ) → Pair vol l r → pair_fault vol l r ≡ Full → PairSays vol l r Fine
+  pair_full : (l r : ℕ) → Pair vol l r → pair_fault vol l r ≡ None → PairSays vol l r None
   pair_full l r p e =
       rw (of_pair_lem l r (cover_of vol (vol.edge_from l) (vol.edge_to r) (pair_of l r)) (sym (pair_fault_lem vol l r (pair_test l r p)) ∙ e))
       at (cover_says vol (vol.edge_from l) (vol.edge_to r) (pair_of l r))
 
   -- what holds is the fault
-  pair_is : Sound vol → (l r : ℕ) (c : Cover) → Pair vol l r → PairSays vol l r c → pair_fault vol l r ≡ of_pair l r c
+  pair_is : Sound vol → (l r : ℕ) (c : Option Flaw) → Pair vol l r → PairSays vol l r c → pair_fault vol l r ≡ of_pair l r c
   pair_is S l r c p h = pair_fault_lem vol l r (pair_test l r p) ∙ ap (of_pair l r) (cover_is vol (vol.edge_from l) (vol.edge_to r) (pair_of l r) S c h)
 
   -- two edges whose pair, if they are one, is covered
-  pair_fine : Sound vol → (l r : ℕ) → l < vol.edges → r < vol.edges → (Pair vol l r → PairSays vol l r Fine) → pair_fault vol l r ≡ Full
+  pair_fine : Sound vol → (l r : ℕ) → l < vol.edges → r < vol.edges → (Pair vol l r → PairSays vol l r None) → pair_fault vol l r ≡ None
   pair_fine S l r a b h = go (is_pair vol l r) refl
     where
-      go : (t : Bool) → is_pair vol l r ≡ t → pair_fault vol l r ≡ Full
-      go true e = let p = pair_of_test l r a b e in pair_is S l r Fine p (h p)
+      go : (t : Bool) → is_pair vol l r ≡ t → pair_fault vol l r ≡ None
+      go true e = let p = pair_of_test l r a b e in pair_is S l r None p (h p)
       go false e = no_pair vol l r e
 
   -- a fault is a pair's
-  pair_there : (l r : ℕ) → l < vol.edges → r < vol.edges → pair_fault vol l r ≢ Full → Pair vol l r
+  pair_there : (l r : ℕ) → l < vol.edges → r < vol.edges → pair_fault vol l r ≢ None → Pair vol l r
   pair_there l r a b n = go (is_pair vol l r) refl
     where
       go : (t : Bool) → is_pair vol l r ≡ t → Pair vol l r
@@ -104,32 +104,32 @@ module _ (vol : Volume) where
       go false e = absurd (n (no_pair vol l r e))
 
   -- no fault with left edge l: its pairs are covered
-  rights_full : (l : ℕ) → l < vol.edges → rights_fault vol l ≡ Full → (r : ℕ) → Pair vol l r → PairSays vol l r Fine
+  rights_full : (l : ℕ) → l < vol.edges → rights_fault vol l ≡ None → (r : ℕ) → Pair vol l r → PairSays vol l r None
   unfolding rights_fault
   rights_full l a e r p = pair_full l r p (row_full (pair_fault vol l) vol.edges e r p.right_there)
 
   -- and the other way
-  rights_fine : Sound vol → (l : ℕ) → l < vol.edges → ((r : ℕ) → Pair vol l r → PairSays vol l r Fine) → rights_fault vol l ≡ Full
+  rights_fine : Sound vol → (l : ℕ) → l < vol.edges → ((r : ℕ) → Pair vol l r → PairSays vol l r None) → rights_fault vol l ≡ None
   unfolding rights_fault
   rights_fine S l a h = sym (fault_none (pair_fault vol l) vol.edges (λ r b. pair_fine S l r a b (h r)))
 
   -- what is found holds
 
   -- the fault of road k, where the roads before it have none
-  road_says : (k : ℕ) → k < vol.roads → RoadsFine vol k → (c : Cover) → c ≢ Fine → RoadSays vol k c → Says vol (of_road k c)
-  road_says k a b Missing n h = record { there = a; before = b; says = h }
-  road_says k a b (Late x) n h = record { there = a; before = b; says = h }
-  road_says k a b Fine n h = absurd (n refl)
+  road_says : (k : ℕ) → k < vol.roads → RoadsFine vol k → (c : Option Flaw) → c ≢ None → RoadSays vol k c → Says vol (of_road k c)
+  road_says k a b (Some Missing) n h = record { there = a; before = b; says = h }
+  road_says k a b (Some (Late x)) n h = record { there = a; before = b; says = h }
+  road_says k a b None n h = absurd (n refl)
 
   -- the fault of l and r in turn, where no road and no pair before it has one
-  pair_says : (l r : ℕ) → RoadsFine vol vol.roads → Pair vol l r → PairsFine vol l r → (c : Cover) → c ≢ Fine → PairSays vol l r c
+  pair_says : (l r : ℕ) → RoadsFine vol vol.roads → Pair vol l r → PairsFine vol l r → (c : Option Flaw) → c ≢ None → PairSays vol l r c
       → Says vol (of_pair l r c)
-  pair_says l r a p b Missing n h = record { roads = a; pair = p; before = b; says = h }
-  pair_says l r a p b (Late x) n h = record { roads = a; pair = p; before = b; says = h }
-  pair_says l r a p b Fine n h = absurd (n refl)
+  pair_says l r a p b (Some Missing) n h = record { roads = a; pair = p; before = b; says = h }
+  pair_says l r a p b (Some (Late x)) n h = record { roads = a; pair = p; before = b; says = h }
+  pair_says l r a p b None n h = absurd (n refl)
 
   -- a road's fault
-  roads_say : roads_fault vol ≢ Full → Says vol (roads_fault vol)
+  roads_say : roads_fault vol ≢ None → Says vol (roads_fault vol)
   unfolding roads_fault road_fault
   roads_say n =
       let F = row_found (road_fault vol) vol.roads n in
@@ -140,12 +140,12 @@ module _ (vol : Volume) where
       (cover_says vol (vol.road_from k) (vol.road_to k) (road_of k)))
 
   -- a pair's fault
-  lefts_say : RoadsFine vol vol.roads → lefts_fault vol ≢ Full → Says vol (lefts_fault vol)
+  lefts_say : RoadsFine vol vol.roads → lefts_fault vol ≢ None → Says vol (lefts_fault vol)
   unfolding lefts_fault rights_fault
   lefts_say roads n =
       let F = row_found (rights_fault vol) vol.edges n in
       let l = F.number in
-      let m : rights_fault vol l ≢ Full = λ z. n (sym F.here ∙ z) in
+      let m : rights_fault vol l ≢ None = λ z. n (sym F.here ∙ z) in
       let G = row_found (pair_fault vol l) vol.edges m in
       let r = G.number in
       let p = pair_there l r F.there G.there (λ z. m (sym G.here ∙ z)) in
@@ -159,7 +159,7 @@ module _ (vol : Volume) where
       (pair_says l r roads p before c (λ z. n (is ∙ ap (of_pair l r) z)) (cover_says vol (vol.edge_from l) (vol.edge_to r) (pair_of l r)))
 
   -- no fault
-  full_says : RoadsFine vol vol.roads → lefts_fault vol ≡ Full → FullDay (network_of vol)
+  full_says : RoadsFine vol vol.roads → lefts_fault vol ≡ None → FullDay (network_of vol)
   unfolding network_of lefts_fault
   full_says roads e = record {
     road = roads;
@@ -189,20 +189,20 @@ module _ (vol : Volume) where
   -- only what holds is found
   module _ (S : Sound vol) where
     -- no road has a fault
-    roads_full : RoadsFine vol vol.roads → roads_fault vol ≡ Full
+    roads_full : RoadsFine vol vol.roads → roads_fault vol ≡ None
     unfolding roads_fault
-    roads_full h = sym (fault_none (road_fault vol) vol.roads (λ k a. road_is S k Fine (h k a)))
+    roads_full h = sym (fault_none (road_fault vol) vol.roads (λ k a. road_is S k None (h k a)))
 
     -- the first fault is a road's
-    first_road_lem : (k : ℕ) (c : Cover) → of_road k c ≢ Full → RoadFirst vol k c → fault_of vol ≡ of_road k c
+    first_road_lem : (k : ℕ) (c : Option Flaw) → of_road k c ≢ None → RoadFirst vol k c → fault_of vol ≡ of_road k c
     unfolding roads_fault
     first_road_lem k c n F =
         let is = row_is (road_fault vol) vol.roads (of_road k c) n
-        (record { number = k; there = F.there; here = road_is S k c F.says; before = λ i h. road_is S i Fine (F.before i h) }) in
+        (record { number = k; there = F.there; here = road_is S k c F.says; before = λ i h. road_is S i None (F.before i h) }) in
         sym (faults_road vol (of_road k c) (sym is) n)
 
     -- the first fault is a pair's
-    first_pair : (l r : ℕ) (c : Cover) → of_pair l r c ≢ Full → PairFirst vol l r c → fault_of vol ≡ of_pair l r c
+    first_pair : (l r : ℕ) (c : Option Flaw) → of_pair l r c ≢ None → PairFirst vol l r c → fault_of vol ≡ of_pair l r c
     unfolding lefts_fault rights_fault
     first_pair l r c n F =
         let p = F.pair in
@@ -225,51 +225,37 @@ module _ (vol : Volume) where
         sym (faults_pair vol (of_pair l r c) (roads_full F.roads) (sym left))
 
     -- there is none
-    all_full : FullDay (network_of vol) → fault_of vol ≡ Full
+    all_full : FullDay (network_of vol) → fault_of vol ≡ None
     unfolding network_of lefts_fault
     all_full F =
-        sym (faults_pair vol Full (roads_full F.road)
+        sym (faults_pair vol None (roads_full F.road)
         (fault_none (rights_fault vol) vol.edges
         (λ l a. rights_fine S l a (λ r p. F.pair l r a p.right_there p.meet p.differ p.below_from p.below_to))))
 
     -- the answer
-    faults_is : (a : Verdict) → Says vol a → fault_of vol ≡ a
-    faults_is Full h = all_full h
-    faults_is (RoadMissing k) h = first_road_lem k Missing (not_full (RoadMissing k) refl) h
-    faults_is (RoadLate k x) h = first_road_lem k (Late x) (not_full (RoadLate k x) refl) h
-    faults_is (PairMissing l r) h = first_pair l r Missing (not_full (PairMissing l r) refl) h
-    faults_is (PairLate l r x) h = first_pair l r (Late x) (not_full (PairLate l r x) refl) h
-    faults_is (Refused number place) h = absurd h
+    faults_is : (a : Option Fault) → Says vol a → fault_of vol ≡ a
+    faults_is None h = all_full h
+    faults_is (Some (RoadMissing k)) h = first_road_lem k (Some Missing) (not_full (Some (RoadMissing k)) refl) h
+    faults_is (Some (RoadLate k x)) h = first_road_lem k (Some (Late x)) (not_full (Some (RoadLate k x)) refl) h
+    faults_is (Some (PairMissing l r)) h = first_pair l r (Some Missing) (not_full (Some (PairMissing l r)) refl) h
+    faults_is (Some (PairLate l r x)) h = first_pair l r (Some (Late x)) (not_full (Some (PairLate l r x)) refl) h
 
 -- any bytes
-
--- what is said of an opened volume is said of its bytes
-means_opened : (v : List ℕ) → Opens v → (a : Verdict) → Says (volume_of v) a → Means v a
-means_opened v o Full h = (o, h)
-means_opened v o (RoadMissing k) h = (o, h)
-means_opened v o (RoadLate k x) h = (o, h)
-means_opened v o (PairMissing l r) h = (o, h)
-means_opened v o (PairLate l r x) h = (o, h)
-means_opened v o (Refused number place) h = absurd h
 
 -- the check's answer holds
 pub answer_holds : (v : List ℕ) → Means v (verdict_of v)
 answer_holds v = go (open_of v) refl
   where
-    go : (o : Opening) → open_of v ≡ o → Means v (verdict_of v)
-    go (opening.Opened c) e =
-        rw (verdict_opened v c e) (means_opened v (c, e) (fault_of (volume_of v)) (faults_say (volume_of v)))
-    go (opening.Refused number place) e = rw (verdict_refused v number place e) e
+    go : (o : Result Counts Refusal) → open_of v ≡ o → Means v (verdict_of v)
+    go (Ok c) e =
+        rw (verdict_opened v c e) ((c, e), faults_say (volume_of v))
+    go (Err why) e = rw (verdict_refused v why e) e
 
 -- and answered
-is_found : (v : List ℕ) → Opens v → (a : Verdict) → Says (volume_of v) a → verdict_of v ≡ a
-is_found v o a h = verdict_opened v o.0 o.1 ∙ faults_is (volume_of v) (opened v o.0 o.1).sound a h
+is_found : (v : List ℕ) → Opens v → (a : Option Fault) → Says (volume_of v) a → verdict_of v ≡ Ok a
+is_found v o a h = verdict_opened v o.0 o.1 ∙ ap Ok (faults_is (volume_of v) (opened v o.0 o.1).sound a h)
 
 -- and no other answer holds
 pub holds_once : (v : List ℕ) (a : Verdict) → Means v a → verdict_of v ≡ a
-holds_once v Full h = is_found v h.0 Full h.1
-holds_once v (RoadMissing k) h = is_found v h.0 (RoadMissing k) h.1
-holds_once v (RoadLate k x) h = is_found v h.0 (RoadLate k x) h.1
-holds_once v (PairMissing l r) h = is_found v h.0 (PairMissing l r) h.1
-holds_once v (PairLate l r x) h = is_found v h.0 (PairLate l r x) h.1
-holds_once v (Refused number place) h = verdict_refused v number place h
+holds_once v (Ok a) h = is_found v h.0 a h.1
+holds_once v (Err why) h = verdict_refused v why h

@@ -2,3 +2,4 @@
 pub mod FaultFound
 pub mod FaultMeans
 pub mod Promises
+pub mod RowRange

@@ -1,19 +1,22 @@
 -- How the edges cover a road, or two edges in turn: document 01, "Full". What is to be covered is a `Piece` of the theory, so that
 -- roads and pairs have one definition: no edge with its two ends, or the first second at which that edge is late. Which roads and
 -- pairs are to be covered, and in which order, is in Fault.
-use Rattle.std.specs.Prelude.{ℕ, Bool, not, eqb, leb}
+use Rattle.std.specs.Prelude.{ℕ, ◌<◌, ◌≡◌, Bool, Option, Some, None, MatchOption, not, eqb, leb}
 use Rattle.block.specs.Choose.{choose, both}
 use Rattle.block.specs.First.{first_not}
 use Rattle.theory.specs.Network.{Piece, road_of, pair_of, by_piece, edge_arr}
-use Rattle.records.specs.Format.{Volume}
-use Rattle.rules.specs.Rules.{empty}
+use Rattle.records.specs.Format.{Volume, empty}
 use Rattle.travel.specs.Network.{network_of, arrival}
-use Rattle.full.specs.declared.cover.Cover.{Cover}
-use Rattle.full.specs.declared.cover.Cover.TheVariants.{Missing, Late, Fine}
+use Rattle.full.specs.declared.cover.Flaw.{Flaw}
+use Rattle.full.specs.declared.cover.Flaw.TheVariants.{Missing, Late}
 
 -- a road or two edges in turn, by two numbers as a piece has them: the right is empty for a road
 unfoldable pub named : ℕ → ℕ → Piece
 named left right = choose (eqb right empty) (road_of left) (pair_of left right)
+
+-- what a search answers whose first number is k, where that is below n, and which finds none where it is n
+abbrev pub Found : Option ℕ → ℕ → ℕ → Type 0
+Found found k n = MatchOption found (k ≡ n) (λ x. (x ≡ k) × (x < n))
 
 module _ (vol : Volume) where
   -- the arrival by the road, or by the two edges in turn, entered at x
@@ -40,9 +43,9 @@ module _ (vol : Volume) where
   unfoldable pub first_late : ℕ → Piece → ℕ
   first_late e q = first_not (no_slower e q) vol.period 0
 
-  -- how the edges cover q, which leads from u to w
-  unfoldable pub cover_of : ℕ → ℕ → Piece → Cover
+  -- how the edges cover q, which leads from u to w: the flaw, or none
+  unfoldable pub cover_of : ℕ → ℕ → Piece → Option Flaw
   cover_of u w q =
       let e = edge_with u w in
       let x = first_late e q in
-      choose (eqb e vol.edges) Missing (choose (eqb x vol.period) Fine (Late x))
+      choose (eqb e vol.edges) (Some Missing) (choose (eqb x vol.period) None (Some (Late x)))

@@ -1,5 +1,5 @@
 -- How a cover is found, over plain numbers: the edge by a walk over those that begin at u, then its earliest late second.
-use Rattle.std.specs.Prelude.{ℕ, ◌≤◌, ◌<◌, ◌≡◌, ◌≢◌, true, eqb}
+use Rattle.std.specs.Prelude.{ℕ, ◌≤◌, ◌<◌, ◌≡◌, ◌≢◌, true, Some, None, eqb}
 use Rattle.std.proofs.Math.Path.{ap, sym}
 use Rattle.std.proofs.Common.{◌∙◌, arith}
 use Rattle.std.proofs.Math.Bool.{false, not}
@@ -11,7 +11,7 @@ use Rattle.theory.specs.Network.{Piece}
 use Rattle.records.specs.Format.{Volume}
 use Rattle.records.specs.Index.{NoneBefore}
 use Rattle.full.specs.Cover.{leads, edge_with, first_late, cover_of}
-use Rattle.full.specs.declared.cover.Cover.TheVariants.{Missing, Late, Fine}
+use Rattle.full.specs.declared.cover.Flaw.TheVariants.{Missing, Late}
 
 module _ (vol : Volume) (u w : ℕ) where
   -- an edge that leads from u to w, and one that does not
@@ -62,7 +62,7 @@ module _ (vol : Volume) (u w : ℕ) where
 
   module _ (q : Piece) (e : ℕ) (is : e ≡ edge_with vol u w) where
     -- no edge is found
-    pub cover_missing : e ≡ vol.edges → cover_of vol u w q ≡ Missing
+    pub cover_missing : e ≡ vol.edges → cover_of vol u w q ≡ Some Missing
     unfolding cover_of
     cover_missing z = choose_yes _ _ (eq-eqb (edge_with vol u w) vol.edges (sym is ∙ z))
 
@@ -74,14 +74,14 @@ module _ (vol : Volume) (u w : ℕ) where
       there = ne_eqb (edge_with vol u w) vol.edges (λ z. ne (is ∙ z))
 
       -- one is, and it is never late
-      pub cover_fine : x ≡ vol.period → cover_of vol u w q ≡ Fine
+      pub cover_fine : x ≡ vol.period → cover_of vol u w q ≡ None
       unfolding cover_of
       cover_fine z = choose_no _ _ there ∙ choose_yes _ _ (eq-eqb (first_late vol (edge_with vol u w) q) vol.period (late_at ∙ z))
 
       -- or late first at x
-      pub cover_late : x ≢ vol.period → cover_of vol u w q ≡ Late x
+      pub cover_late : x ≢ vol.period → cover_of vol u w q ≡ Some (Late x)
       unfolding cover_of
       cover_late n =
           choose_no _ _ there
           ∙ choose_no _ _ (ne_eqb (first_late vol (edge_with vol u w) q) vol.period (λ z. n (sym late_at ∙ z)))
-          ∙ ap Late late_at
+          ∙ ap (λ (y : ℕ). Some (Late y)) late_at

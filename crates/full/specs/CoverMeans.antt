@@ -1,5 +1,5 @@
 -- The cover that is found is the one that holds, on a sound volume; and no other holds.
-use Rattle.std.specs.Prelude.{ℕ, ◌≤◌, ◌<◌, ◌≡◌, eqb}
+use Rattle.std.specs.Prelude.{ℕ, ◌≤◌, ◌<◌, ◌≡◌, Option, Some, None, eqb}
 use Rattle.std.proofs.Math.Path.{refl}
 use Rattle.std.proofs.Common.{sym, ◌∙◌, arith}
 use Rattle.std.proofs.Math.Bool.{not}
@@ -14,8 +14,8 @@ use Rattle.travel.specs.Network.{network_of, arrival}
 use Rattle.full.specs.Cover.{arrival_by, leads, edge_with, no_slower, first_late, cover_of}
 use Rattle.full.specs.CoverFound.{edge_found, edge_none, edge_high, cover_missing, cover_fine, cover_late}
 use Rattle.full.specs.Means.{NoEdge, CoverSays}
-use Rattle.full.specs.declared.cover.Cover.{Cover}
-use Rattle.full.specs.declared.cover.Cover.TheVariants.{Missing, Late, Fine}
+use Rattle.full.specs.declared.cover.Flaw.{Flaw}
+use Rattle.full.specs.declared.cover.Flaw.TheVariants.{Missing, Late}
 
 module _ (vol : Volume) (u w : ℕ) (q : Piece) where
   -- the two searches
@@ -102,14 +102,14 @@ module _ (vol : Volume) (u w : ℕ) (q : Piece) where
       t
 
   -- only what holds is found
-  pub cover_is : Sound vol → (c : Cover) → CoverSays vol u w q c → cover_of vol u w q ≡ c
+  pub cover_is : Sound vol → (c : Option Flaw) → CoverSays vol u w q c → cover_of vol u w q ≡ c
   unfolding network_of first_late no_slower
-  cover_is S Missing h =
+  cover_is S (Some Missing) h =
       cover_missing vol u w q vol.edges
       (edge_none vol u w vol.edges (omega arith)
       (record { inside = omega arith; begins_there = λ l. absurd (omega arith); none = h }))
       refl
-  cover_is S (Late y) h =
+  cover_is S (Some (Late y)) h =
       cover_late vol u w q h.edge (found S h.edge h.there h.starts h.ends) (λ z. let l = h.there in omega arith) y
       (sym (first_is (no_slower vol h.edge q) vol.period y
       (record {
@@ -119,7 +119,7 @@ module _ (vol : Volume) (u w : ℕ) (q : Piece) where
         here = λ l. lt-leb (arrival vol h.edge y) (arrival_by vol q y) h.late;
       })))
       (λ z. let l = h.in_period in omega arith)
-  cover_is S Fine h =
+  cover_is S None h =
       cover_fine vol u w q h.edge (found S h.edge h.there h.starts h.ends) (λ z. let l = h.there in omega arith) vol.period
       (sym (first_is (no_slower vol h.edge q) vol.period vol.period
       (record {

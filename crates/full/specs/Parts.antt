@@ -1,5 +1,5 @@
 -- An edge from piece to piece: where each piece ends, and that the edge is the piece up to there.
-use Rattle.std.specs.Prelude.{ℕ, ◌+◌, ◌%◌, ◌≤◌, ◌<◌, ◌≡◌, ltb}
+use Rattle.std.specs.Prelude.{ℕ, ◌+◌, ◌%◌, ◌≤◌, ◌<◌, ◌≡◌, refl, ltb}
 use Rattle.std.proofs.Math.Path.{ap}
 use Rattle.std.proofs.Common.{sym, ◌∙◌, arith, mod-eq_of_lt, lt-ltb, le-ltb}
 use Rattle.std.proofs.Math.Decide.{dec_lt}
@@ -7,14 +7,16 @@ use Rattle.std.proofs.Math.Dec.{leb}
 use Rattle.block.specs.Choose.{choose, choose_yes, choose_no}
 use Rattle.block.specs.First.{Passed, first_end}
 use Rattle.theory.specs.Network.{Piece}
-use Rattle.records.specs.Format.{Volume}
+use Rattle.records.specs.Format.{Volume, IsWay}
+use Rattle.records.specs.declared.tables.Way.{Way}
+use Rattle.records.specs.declared.tables.Way.TheVariants.{Road, Turn as ByTurn}
 use Rattle.rules.specs.Rules.{start}
 use Rattle.volume.specs.Sound.{Sound}
 use Rattle.travel.specs.Last.{last_le, IsLast, last_is, above_from}
 use Rattle.travel.specs.Network.{piece_at, piece_of, HasPiece, road_at, pair_at}
 use Rattle.travel.specs.Halves.{edge_by_piece}
 use Rattle.full.specs.Cover.{named, arrival_by, not_after, no_slower, first_late}
-use Rattle.full.specs.Turns.{Names}
+use Rattle.full.specs.Turns.{Names, Known}
 use Rattle.full.specs.Runs.{first_from, from_same, first_inside, first_past}
 
 -- where piece i, of the n pieces from piece `first` on, ends: where the next starts, or with the period
@@ -58,6 +60,14 @@ module _ (vol : Volume) (S : Sound vol) (e first n : ℕ) (h : e < vol.edges) (h
           left_edge = λ z. omega (arith, (pair_at vol S e (first + i) h of z).left);
           right_edge = λ z. omega (arith, (pair_at vol S e (first + i) h of z).right);
         })
+
+    -- and goes a way of the volume
+    pub piece_known : (way : Way) → IsWay (vol.piece_left (first + i)) (vol.piece_right (first + i)) way → Known vol way
+    piece_known (Road k) W =
+        rw W.1 ((piece_named (vol.piece_left (first + i)) (vol.piece_right (first + i)) refl refl).road W.0)
+    piece_known (ByTurn l r) W =
+        let N = piece_named (vol.piece_left (first + i)) (vol.piece_right (first + i)) refl refl in
+        (rw W.1 (N.left_edge W.0), rw W.2 (N.right_edge W.0))
 
     -- it begins at x
     module _ (x end : ℕ) (hx : Begins vol e n i x) (he : end ≡ piece_end vol first n i) where

@@ -1,18 +1,19 @@
--- Opening refuses by the numbers 1 to 6 and by no other.
-use Rattle.std.specs.Prelude.{ℕ, ◌≤◌, Bool, true, false, List}
+-- Result Counts Refusal refuses by the numbers 1 to 6 and by no other.
+use Rattle.std.specs.Prelude.{ℕ, ◌≤◌, Bool, true, false, List, Result, Ok, Err}
 use Rattle.std.proofs.Common.{arith}
 use Rattle.block.specs.Choose.{choose}
+use Rattle.block.specs.Refusal.{number_of}
+use Rattle.records.specs.declared.tables.Counts.{Counts}
 use Rattle.volume.specs.Open.{records_of, open_of}
-use Rattle.volume.specs.declared.Opening.{Opening}
-use Rattle.volume.specs.declared.Opening.TheVariants as opening
+use Rattle.block.specs.declared.refusal.Refusal.{Refusal}
 
 -- a refusal's number is one of 1 to 6
-abbrev pub Numbered : Opening → Type 0
-Numbered (opening.Opened c) = Unit {0}
-Numbered (opening.Refused number place) = (1 ≤ number) × (number ≤ 6)
+abbrev pub Numbered : Result Counts Refusal → Type 0
+Numbered (Ok c) = Unit {0}
+Numbered (Err why) = (1 ≤ number_of why) × (number_of why ≤ 6)
 
 -- either of two answers
-either : (t : Bool) (a b : Opening) → Numbered a → Numbered b → Numbered (choose t a b)
+either : (t : Bool) (a b : Result Counts Refusal) → Numbered a → Numbered b → Numbered (choose t a b)
 unfolding choose
 either true a b h k = h
 either false a b h k = k

@@ -5,12 +5,13 @@ use Rattle.std.proofs.Common.{ap, sym, ◌∙◌, arith}
 use borrow.Author.Tests.{eq-eqb, ne_eqb, le-leb, lt-leb}
 use Rattle.block.specs.Choose.{choose_yes, choose_no}
 use Rattle.theory.specs.Network.{Piece, road_of, pair_of, by_piece, edge_arr}
-use Rattle.records.specs.Format.{Volume, volume_of, Laid, Counted, day}
-use Rattle.rules.specs.Rules.{empty}
+use Rattle.records.specs.Format.{Volume, volume_of, Laid, Counted, IsWay, day, empty}
 use Rattle.volume.specs.Sound.{Sound}
 use Rattle.records.specs.Index.{Linked, Indexed, indexed_linked}
 use Rattle.records.specs.declared.tables.Counts.{Counts}
 use Rattle.records.specs.declared.tables.Tables.{Tables}
+use Rattle.records.specs.declared.tables.Way.{Way}
+use Rattle.records.specs.declared.tables.Way.TheVariants.{Road, Turn as ByTurn}
 use Rattle.travel.specs.Network.{network_of, period_of, arrival, road_time, Enters}
 use Rattle.travel.specs.Halves.{edge_short}
 use Rattle.full.specs.Cover.{named, arrival_by, not_after}
@@ -58,6 +59,21 @@ pub named_pair : (l r : ℕ) → r ≢ empty → named l r ≡ pair_of l r
 unfolding named
 named_pair l r n = choose_no (road_of l) (pair_of l r) (ne_eqb r empty n)
 
+-- what a way names: a road, or two edges in turn
+abbrev pub way_of : Way → Piece
+way_of (Road k) = road_of k
+way_of (ByTurn l r) = pair_of l r
+
+-- a road of the volume, or two of its edges
+abbrev pub Known : Volume → Way → Type 0
+Known vol (Road k) = k < vol.roads
+Known vol (ByTurn l r) = (l < vol.edges) × (r < vol.edges)
+
+-- a piece with that left and right goes the way that they name
+pub way_named : (left right : ℕ) (way : Way) → IsWay left right way → named left right ≡ way_of way
+way_named left right (Road k) W = ap (named left) W.0 ∙ named_road left ∙ ap road_of (sym W.1)
+way_named left right (ByTurn l r) W = named_pair left right W.0 ∙ rw (W.1, W.2) refl
+
 -- two edges in turn, entered at x
 pub record Turn (vol : Volume) (left right x : ℕ) : Type 0 where
   pub enters : Enters vol left x
@@ -93,6 +109,21 @@ module _ (vol : Volume) (S : Sound vol) (left right x : ℕ) (N : Names vol left
             ∙ sym (ap (by_piece (network_of vol) (edge_arr (network_of vol)) x) (named_pair left right n));
       }
 
+-- a road of the volume, entered at x
+pub road_goes : (vol : Volume) → Sound vol → (k x d : ℕ) → k < vol.roads → d ≡ road_time vol k x → x + d ≡ arrival_by vol (road_of k) x
+road_goes vol S k x d h e = rw (named_road k) at (road_turn vol S k empty x (names_road vol k h) d refl e)
+
+-- two of its edges in turn
+module _ (vol : Volume) (S : Sound vol) (l r x : ℕ) (a : l < vol.edges) (b : r < vol.edges) where
+  two : r ≢ empty
+  two z = omega (arith, S.edges_few)
+
+  pub pair_goes : vol.period ≡ day → x < vol.period → Turn vol l r x
+  pair_goes p h = pair_turn vol S l r x (names_pair vol l r S a b) p h two
+
+  pub pair_named : named l r ≡ pair_of l r
+  pair_named = named_pair l r two
+
 -- one second of a comparison
 
 module _ (vol : Volume) where
@@ -112,3 +143,8 @@ module _ (vol : Volume) where
   pub turn_same : (a b left right x : ℕ) → a ≡ left → b ≡ right → not_after vol (named a b) (named left right) x ≡ true
   unfolding not_after
   turn_same a b left right x e f = rw (e, f) (le-leb (arrival_by vol (named left right) x) (arrival_by vol (named left right) x) (omega arith))
+
+  -- and so are the same two ways
+  pub way_same : (p q : Way) (x : ℕ) → p ≡ q → not_after vol (way_of p) (way_of q) x ≡ true
+  unfolding not_after
+  way_same p q x e = rw e (le-leb (arrival_by vol (way_of q) x) (arrival_by vol (way_of q) x) (omega arith))

@@ -1,171 +1,117 @@
-// How the edges cover one road, or two edges in turn: document 01, "Full". Both are named by two numbers as a piece names them, so
-// that one search serves both: a road is `left` with the right EMPTY, two edges in turn are `left` and `right`.
+// How the edges cover one road, or two edges in turn: document 01, "Full". Both are a `Way`, as a piece goes, so that one search serves
+// both.
 ghost use Rattle.std.specs.Prelude.{◌≡◌, ◌+◌, ◌≤◌, ◌<◌};
-ghost use Rattle.records.specs.Format.{volume_of, Laid};
-ghost use Rattle.volume.specs.Sound.{Sound};
-ghost use Rattle.travel.specs.Digest.{LaidOut, Digest};
-ghost use Rattle.full.specs.Cover.{named, arrival_by, not_after, edge_with, first_late, cover_of};
-ghost use Rattle.full.specs.Turns.{Names, Ready};
+ghost use Rattle.records.specs.Format.{volume_of};
+ghost use Rattle.full.specs.Cover.{Found, arrival_by, not_after, edge_with, first_late, cover_of};
+ghost use Rattle.full.specs.Turns.{Known, way_of};
 ghost use Rattle.full.specs.Parts.{piece_end};
 ghost use Rattle.full.specs.Runs.{first_from};
 
-use records::tables::{
-    EMPTY, PERIOD, Tables, edge_first, edge_pieces, edge_to, piece_left, piece_right, piece_start,
-};
-use travel::edge::{edge_duration, road_lasts};
+use records::readers::Records;
+use records::tables::{PERIOD, Way};
+use travel::digest::Timetable;
+use travel::roadmap::Roadmap;
 
-// What the edges make of a road or of two edges in turn: none has its two ends, the one that has them is late, first at a second, or
-// it is never late.
+// Why the edges don't cover a road or two edges in turn: none has its two ends, or the one that has them is late, first at a second.
 #[derive(Clone, Copy)]
-pub enum Cover {
+pub enum Flaw {
     Missing,
     Late(u64),
-    Fine,
 }
 
-// The edge from u to w, or the number of edges. Only edges that begin at u are looked at.
-fn find_edge(
-    v: &[u8],
-    t: Tables,
-    first: &[u16],
-    next: &[u16],
-    edges: usize,
-    u: usize,
-    w: usize,
-) -> usize
-    requires ready { Ready v.now t first.now next.now edges }
-    requires u_bound { u < (volume_of v.now).junctions }
-    ensures { result ≡ edge_with (volume_of v.now) u w }
+// The edge from u to w. Only edges that begin at u are looked at.
+fn find_edge(map: &Roadmap<'_>, u: usize, w: usize) -> Option<usize>
+    requires { u < (volume_of map.now.times.opened.records.bytes.now).junctions }
+    ensures { Found result (edge_with (volume_of map.now.times.opened.records.bytes.now) u w) (volume_of map.now.times.opened.records.bytes.now).edges }
 {
-    let mut e = first[u] as usize;
-    while e < edges {
-        if edge_to(v, t, e) == w {
-            return e;
+    let records = &map.times.opened.records;
+    let mut e = map.first(u);
+    while e < records.counts.edges {
+        if records.edge(e).to == w {
+            return Some(e);
         }
-        e = next[e] as usize;
+        e = map.next(e);
     }
-    e
+    None
 }
 
-// How long the road `left`, or the edges `left` and `right` in turn, take for who enters at x.
-fn in_turn(v: &[u8], digest: &[u32], left: usize, right: usize, x: u64) -> u64
-    requires laid_out { LaidOut v.now }
-    requires sound { Sound (volume_of v.now) }
-    requires digest { Digest (volume_of v.now) digest.now }
-    requires names { Names (volume_of v.now) left right }
-    requires x_bound { x < (volume_of v.now).period }
-    ensures { x + result ≡ arrival_by (volume_of v.now) (named left right) x }
+// How long a road, or two edges in turn, take for who enters at x.
+fn in_turn(times: &Timetable<'_>, way: Way, x: u64) -> u64
+    requires known { Known (volume_of times.now.opened.records.bytes.now) way }
+    requires x_bound { x < (volume_of times.now.opened.records.bytes.now).period }
+    ensures { x + result ≡ arrival_by (volume_of times.now.opened.records.bytes.now) (way_of way) x }
 {
-    if right == EMPTY {
-        return road_lasts(v, digest, left, x);
-    }
-    let a = edge_duration(v, digest, left, x);
-    let b = edge_duration(v, digest, right, x + a);
-    a + b
-}
-
-// The first second, from x up to `end`, at which a and b arrive later than `left` and `right`, or `end`. Where the two are the same they
-// are equal by definition, and no second is looked at.
-fn first_slower(
-    v: &[u8],
-    digest: &[u32],
-    a: usize,
-    b: usize,
-    left: usize,
-    right: usize,
-    from: u64,
-    end: u64,
-) -> u64
-    requires laid_out { LaidOut v.now }
-    requires sound { Sound (volume_of v.now) }
-    requires digest { Digest (volume_of v.now) digest.now }
-    requires names { Names (volume_of v.now) a b }
-    requires names_2 { Names (volume_of v.now) left right }
-    requires from_le_end { (from ≤ end) × (end ≤ (volume_of v.now).period) }
-    ensures { result ≡ first_from (not_after (volume_of v.now) (named a b) (named left right)) from end }
-{
-    if a == left {
-        if b == right {
-            return end;
+    match way {
+        Way::Road(k) => times.road_lasts(k, x),
+        Way::Turn(left, right) => {
+            let a = times.edge_duration(left, x);
+            let b = times.edge_duration(right, x + a);
+            a + b
         }
     }
-    let mut x = from;
-    while x < end {
-        let rival = in_turn(v, digest, left, right, x);
-        let own = in_turn(v, digest, a, b, x);
+}
+
+// The first second, from `from` up to `end`, at which a piece arrives later than `way`. Where the two are the same they are equal by
+// definition, and no second is looked at.
+fn first_slower(times: &Timetable<'_>, piece: Way, way: Way, from: u64, end: u64) -> Option<u64>
+    requires piece_known { Known (volume_of times.now.opened.records.bytes.now) piece }
+    requires way_known { Known (volume_of times.now.opened.records.bytes.now) way }
+    requires from_le_end { (from ≤ end) × (end ≤ (volume_of times.now.opened.records.bytes.now).period) }
+    ensures { Found result (first_from (not_after (volume_of times.now.opened.records.bytes.now) (way_of piece) (way_of way)) from end) end }
+{
+    if piece == way {
+        return None;
+    }
+    for x in from..end {
+        let rival = in_turn(times, way, x);
+        let own = in_turn(times, piece, x);
         if rival < own {
-            return x;
+            return Some(x);
         }
-        x += 1;
     }
-    x
+    None
 }
 
 // The second at which piece i, of the n pieces from piece `first` on, ends: where the next starts, or with the period.
-fn piece_end(v: &[u8], t: Tables, first: usize, n: usize, i: usize) -> u64
-    requires laid { Laid v.now t }
-    requires i_lt_n { (i < n) × (first + n ≤ (volume_of v.now).pieces) }
-    ensures { result ≡ piece_end (volume_of v.now) first n i }
+fn piece_end(r: &Records<'_>, first: usize, n: usize, i: usize) -> u64
+    requires { (i < n) × (first + n ≤ (volume_of r.now.bytes.now).pieces) }
+    ensures { result ≡ piece_end (volume_of r.now.bytes.now) first n i }
 {
     if i + 1 < n {
-        return piece_start(v, t, first + i + 1);
+        return r.piece(first + i + 1).start;
     }
     PERIOD
 }
 
-// The first second of the period at which edge e arrives later than `left` and `right`, or the period. It goes from piece to piece.
-fn first_late(v: &[u8], t: Tables, digest: &[u32], e: usize, left: usize, right: usize) -> u64
-    requires laid { Laid v.now t }
-    requires sound { Sound (volume_of v.now) }
-    requires digest { Digest (volume_of v.now) digest.now }
-    requires e_bound { e < (volume_of v.now).edges }
-    requires names { Names (volume_of v.now) left right }
-    ensures { result ≡ first_late (volume_of v.now) e (named left right) }
+// The first second of the period at which edge e arrives later than `way`. It goes from piece to piece.
+fn first_late(times: &Timetable<'_>, e: usize, way: Way) -> Option<u64>
+    requires e_bound { e < (volume_of times.now.opened.records.bytes.now).edges }
+    requires known { Known (volume_of times.now.opened.records.bytes.now) way }
+    ensures { Found result (first_late (volume_of times.now.opened.records.bytes.now) e (way_of way)) (volume_of times.now.opened.records.bytes.now).period }
 {
-    let first = edge_first(v, t, e);
-    let n = edge_pieces(v, t, e);
+    let records = &times.opened.records;
+    let edge = records.edge(e);
     let mut x: u64 = 0;
-    let mut i: usize = 0;
-    while i < n {
-        let a = piece_left(v, t, first + i);
-        let b = piece_right(v, t, first + i);
-        let end = piece_end(v, t, first, n, i);
-        let y = first_slower(v, digest, a, b, left, right, x, end);
-        if y < end {
-            return y;
+    for i in 0..edge.pieces {
+        let piece = records.piece(edge.first + i).way;
+        let end = piece_end(records, edge.first, edge.pieces, i);
+        if let Some(y) = first_slower(times, piece, way, x, end) {
+            return Some(y);
         }
         x = end;
-        i += 1;
     }
-    x
+    None
 }
 
-// How the edges cover the road `left`, or the edges `left` and `right` in turn, which lead from u to w.
-pub fn cover_of(
-    v: &[u8],
-    t: Tables,
-    first: &[u16],
-    next: &[u16],
-    digest: &[u32],
-    edges: usize,
-    u: usize,
-    w: usize,
-    left: usize,
-    right: usize,
-) -> Cover
-    requires ready { Ready v.now t first.now next.now edges }
-    requires digest { Digest (volume_of v.now) digest.now }
-    requires u_bound { u < (volume_of v.now).junctions }
-    requires names { Names (volume_of v.now) left right }
-    ensures { result ≡ cover_of (volume_of v.now) u w (named left right) }
+// How the edges cover `way`, which leads from u to w: the flaw, or none.
+pub fn cover_of(map: &Roadmap<'_>, way: Way, u: usize, w: usize) -> Option<Flaw>
+    requires u_bound { u < (volume_of map.now.times.opened.records.bytes.now).junctions }
+    requires known { Known (volume_of map.now.times.opened.records.bytes.now) way }
+    ensures { result ≡ cover_of (volume_of map.now.times.opened.records.bytes.now) u w (way_of way) }
 {
-    let e = find_edge(v, t, first, next, edges, u, w);
-    if e == edges {
-        return Cover::Missing;
-    }
-    let x = first_late(v, t, digest, e, left, right);
-    if x == PERIOD {
-        return Cover::Fine;
-    }
-    Cover::Late(x)
+    let Some(e) = find_edge(map, u, w) else {
+        return Some(Flaw::Missing);
+    };
+    let x = first_late(&map.times, e, way)?;
+    Some(Flaw::Late(x))
 }

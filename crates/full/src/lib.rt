@@ -3,215 +3,149 @@
 #![tactic(auto)]
 
 ghost use Rattle.std.specs.Prelude.{◌≡◌, ◌<◌};
-ghost use Rattle.records.specs.Format.{volume_of, Laid, Counted, Few};
-ghost use Rattle.volume.specs.Sound.{Sound};
-ghost use Rattle.travel.specs.Digest.{Digest};
+ghost use Rattle.records.specs.Format.{volume_of};
 ghost use Rattle.full.specs.Fault.{of_road, of_pair, road_fault, pair_fault, rights_fault, lefts_fault, roads_fault, fault_of, verdict_of};
-ghost use Rattle.full.specs.Turns.{Ready};
 
-use crate::cover::{Cover, cover_of};
+use crate::cover::{Flaw, cover_of};
+use block::refusal::Refusal;
 use records::index::index_edges;
-use records::tables::{Counts, EMPTY, Tables, edge_from, edge_to, road_at, tables_of};
-use travel::digest::{LONG, make_digest};
-use volume::{Opening, open};
+use records::tables::Way;
+use std::fmt;
+use travel::digest::{LONG, Timetable, make_digest};
+use travel::roadmap::Roadmap;
+use volume::read;
+use volume::sound::Opened;
 
 pub mod cover;
 
-// What the check answers. A road is named by its number, a pair by its left and its right edge; the number beside them is the earliest
-// late second. Refused has the refusal's number and its place.
+// Why a volume isn't full. A road is named by its number, a pair by its left and its right edge; the number beside them is the earliest
+// late second.
 #[derive(Clone, Copy)]
-pub enum Verdict {
-    Full,
+pub enum Fault {
     RoadMissing(usize),
     RoadLate(usize, u64),
     PairMissing(usize, usize),
     PairLate(usize, usize, u64),
-    Refused(u32, u64),
+}
+
+impl fmt::Display for Fault {
+    fn fmt<W: fmt::Write>(&self, f: &mut fmt::Formatter<W>) -> fmt::Result {
+        match self {
+            Fault::RoadMissing(k) => write!(f, "road {k} has no edge"),
+            Fault::RoadLate(k, second) => write!(f, "road {k} late at {second}"),
+            Fault::PairMissing(l, r) => write!(f, "edges {l} and {r} have no edge"),
+            Fault::PairLate(l, r, second) => write!(f, "edges {l} and {r} late at {second}"),
+        }
+    }
 }
 
 // The fault of road k, by how the edges cover it.
-fn of_road(k: usize, c: Cover) -> Verdict
-    ensures { result ≡ of_road k c }
+fn of_road(k: usize, flaw: Option<Flaw>) -> Option<Fault>
+    ensures { result ≡ of_road k flaw }
 {
-    match c {
-        Cover::Missing => Verdict::RoadMissing(k),
-        Cover::Late(x) => Verdict::RoadLate(k, x),
-        Cover::Fine => Verdict::Full,
+    match flaw? {
+        Flaw::Missing => Some(Fault::RoadMissing(k)),
+        Flaw::Late(x) => Some(Fault::RoadLate(k, x)),
     }
 }
 
 // The fault of the edges l and r in turn, by how the edges cover them.
-fn of_pair(l: usize, r: usize, c: Cover) -> Verdict
-    ensures { result ≡ of_pair l r c }
+fn of_pair(l: usize, r: usize, flaw: Option<Flaw>) -> Option<Fault>
+    ensures { result ≡ of_pair l r flaw }
 {
-    match c {
-        Cover::Missing => Verdict::PairMissing(l, r),
-        Cover::Late(x) => Verdict::PairLate(l, r, x),
-        Cover::Fine => Verdict::Full,
+    match flaw? {
+        Flaw::Missing => Some(Fault::PairMissing(l, r)),
+        Flaw::Late(x) => Some(Fault::PairLate(l, r, x)),
     }
 }
 
 // The fault of road k.
-fn road_fault(
-    v: &[u8],
-    t: Tables,
-    first: &[u16],
-    next: &[u16],
-    digest: &[u32],
-    edges: usize,
-    k: usize,
-) -> Verdict
-    requires ready { Ready v.now t first.now next.now edges }
-    requires digest { Digest (volume_of v.now) digest.now }
-    requires k_bound { k < (volume_of v.now).roads }
-    ensures { result ≡ road_fault (volume_of v.now) k }
+fn road_fault(map: &Roadmap<'_>, k: usize) -> Option<Fault>
+    requires { k < (volume_of map.now.times.opened.records.bytes.now).roads }
+    ensures { result ≡ road_fault (volume_of map.now.times.opened.records.bytes.now) k }
 {
-    let road = road_at(v, t, k);
-    let c = cover_of(
-        v, t, first, next, digest, edges, road.from, road.to, k, EMPTY,
-    );
-    of_road(k, c)
+    let road = map.times.opened.records.road(k);
+    let flaw = cover_of(map, Way::Road(k), road.from, road.to);
+    of_road(k, flaw)
 }
 
 // The fault of the edges l, from u to m, and r, which begins at m, in turn.
-fn pair_fault(
-    v: &[u8],
-    t: Tables,
-    first: &[u16],
-    next: &[u16],
-    digest: &[u32],
-    edges: usize,
-    l: usize,
-    u: usize,
-    m: usize,
-    r: usize,
-) -> Verdict
-    requires ready { Ready v.now t first.now next.now edges }
-    requires digest { Digest (volume_of v.now) digest.now }
-    requires l_lt_edges { (l < edges) × (r < edges) }
-    requires u_value { (u ≡ (volume_of v.now).edge_from l) × (m ≡ (volume_of v.now).edge_to l) }
-    requires m_value { (m ≡ (volume_of v.now).edge_from r) × (m < u) }
-    ensures { result ≡ pair_fault (volume_of v.now) l r }
+fn pair_fault(map: &Roadmap<'_>, l: usize, u: usize, m: usize, r: usize) -> Option<Fault>
+    requires l_bound { (l < (volume_of map.now.times.opened.records.bytes.now).edges) × (r < (volume_of map.now.times.opened.records.bytes.now).edges) }
+    requires u_value { (u ≡ (volume_of map.now.times.opened.records.bytes.now).edge_from l) × (m ≡ (volume_of map.now.times.opened.records.bytes.now).edge_to l) }
+    requires m_value { (m ≡ (volume_of map.now.times.opened.records.bytes.now).edge_from r) × (m < u) }
+    ensures { result ≡ pair_fault (volume_of map.now.times.opened.records.bytes.now) l r }
 {
-    let w = edge_to(v, t, r);
+    let w = map.times.opened.records.edge(r).to;
     if w <= m {
-        return Verdict::Full;
+        return None;
     }
     if w == u {
-        return Verdict::Full;
+        return None;
     }
-    let c = cover_of(v, t, first, next, digest, edges, u, w, l, r);
-    of_pair(l, r, c)
+    let flaw = cover_of(map, Way::Turn(l, r), u, w);
+    of_pair(l, r, flaw)
 }
 
 // The first fault of edge l and an edge after it in turn.
-fn rights_fault(
-    v: &[u8],
-    t: Tables,
-    first: &[u16],
-    next: &[u16],
-    digest: &[u32],
-    edges: usize,
-    l: usize,
-) -> Verdict
-    requires ready { Ready v.now t first.now next.now edges }
-    requires digest { Digest (volume_of v.now) digest.now }
-    requires l_lt_edges { l < edges }
-    ensures { result ≡ rights_fault (volume_of v.now) l }
+fn rights_fault(map: &Roadmap<'_>, l: usize) -> Option<Fault>
+    requires { l < (volume_of map.now.times.opened.records.bytes.now).edges }
+    ensures { result ≡ rights_fault (volume_of map.now.times.opened.records.bytes.now) l }
 {
-    let u = edge_from(v, t, l);
-    let m = edge_to(v, t, l);
-    if u <= m {
-        return Verdict::Full;
+    let records = &map.times.opened.records;
+    let left = records.edge(l);
+    let m = left.to;
+    if left.from <= m {
+        return None;
     }
-    let mut r = first[m] as usize;
-    while r < edges {
-        let found = pair_fault(v, t, first, next, digest, edges, l, u, m, r);
-        let Verdict::Full = found else {
-            return found;
-        };
-        r = next[r] as usize;
+    let mut r = map.first(m);
+    while r < records.counts.edges {
+        if let Some(fault) = pair_fault(map, l, left.from, m, r) {
+            return Some(fault);
+        }
+        r = map.next(r);
     }
-    Verdict::Full
+    None
 }
 
 // The first fault of two edges in turn, by the left one's number and then by the right one's.
-fn lefts_fault(
-    v: &[u8],
-    t: Tables,
-    first: &[u16],
-    next: &[u16],
-    digest: &[u32],
-    edges: usize,
-) -> Verdict
-    requires ready { Ready v.now t first.now next.now edges }
-    requires digest { Digest (volume_of v.now) digest.now }
-    ensures { result ≡ lefts_fault (volume_of v.now) }
+fn lefts_fault(map: &Roadmap<'_>) -> Option<Fault>
+    ensures { result ≡ lefts_fault (volume_of map.now.times.opened.records.bytes.now) }
 {
-    let mut l: usize = 0;
-    while l < edges {
-        let found = rights_fault(v, t, first, next, digest, edges, l);
-        let Verdict::Full = found else {
-            return found;
-        };
-        l += 1;
-    }
-    Verdict::Full
+    (0..map.times.opened.records.counts.edges).find_map(|l| rights_fault(map, l))
 }
 
 // The first fault of a road.
-fn roads_fault(
-    v: &[u8],
-    t: Tables,
-    first: &[u16],
-    next: &[u16],
-    digest: &[u32],
-    edges: usize,
-    roads: usize,
-) -> Verdict
-    requires ready { Ready v.now t first.now next.now edges }
-    requires digest { Digest (volume_of v.now) digest.now }
-    requires roads_value { roads ≡ (volume_of v.now).roads }
-    ensures { result ≡ roads_fault (volume_of v.now) }
+fn roads_fault(map: &Roadmap<'_>) -> Option<Fault>
+    ensures { result ≡ roads_fault (volume_of map.now.times.opened.records.bytes.now) }
 {
-    let mut k: usize = 0;
-    while k < roads {
-        let found = road_fault(v, t, first, next, digest, edges, k);
-        let Verdict::Full = found else {
-            return found;
-        };
-        k += 1;
-    }
-    Verdict::Full
+    (0..map.times.opened.records.counts.roads).find_map(|k| road_fault(map, k))
 }
 
 // The first fault of an opened volume: roads, then pairs, by an index of the edges that is made once.
-fn fault_of(v: &[u8], t: Tables, c: Counts) -> Verdict
-    requires laid { Laid v.now t }
-    requires sound { Sound (volume_of v.now) }
-    requires counted { Counted (volume_of v.now) c }
-    requires few { Few c }
-    ensures { result ≡ fault_of (volume_of v.now) }
+fn fault_of(opened: &Opened<'_>) -> Option<Fault>
+    ensures { result ≡ fault_of (volume_of opened.now.records.bytes.now) }
 {
     let mut first = [0u16; 1024];
     let mut next = [0u16; 16384];
     let mut digest = [0u32; LONG];
-    index_edges(v, t, c, &mut first, &mut next);
-    make_digest(v, t, c, &mut digest);
-    let found = roads_fault(v, t, &first, &next, &digest, c.edges, c.roads);
-    let Verdict::Full = found else {
-        return found;
+    index_edges(&opened.records, &mut first, &mut next);
+    make_digest(opened, &mut digest);
+    let times = Timetable {
+        opened: *opened,
+        digest: &digest,
     };
-    lefts_fault(v, t, &first, &next, &digest, c.edges)
+    let map = Roadmap::new(times, &first, &next);
+    if let Some(fault) = roads_fault(&map) {
+        return Some(fault);
+    }
+    lefts_fault(&map)
 }
 
 // Is the volume full? If not, the first fault; if it does not open, the refusal. The answer is the one over every second.
-pub fn check(v: &[u8]) -> Verdict
+pub fn check(v: &[u8]) -> Result<Option<Fault>, Refusal>
     ensures { result ≡ verdict_of v.now }
 {
-    let opening = open(v);
-    match opening {
-        Opening::Refused(number, place) => Verdict::Refused(number, place),
-        Opening::Opened(c) => fault_of(v, tables_of(c), c),
-    }
+    let opened = read(v)?;
+    Ok(fault_of(&opened))
 }

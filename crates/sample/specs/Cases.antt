@@ -1,7 +1,7 @@
 -- The cases of document 01, "The sample network", that are marked *, in one table under one theorem. Each field is one case, in the
 -- document's order, under the document's words; the answers are those of the contracts, from the bytes. The networks are in Bytes. The
 -- cases without a mark run as programs. That the sample is full is in Verdicts.
-use Rattle.std.specs.Prelude.{ℕ, ◌≡◌, refl, List, [], ◌∷◌, length, replicate}
+use Rattle.std.specs.Prelude.{ℕ, ◌≡◌, refl, Some, List, [], ◌∷◌, length, replicate}
 use Rattle.std.proofs.Common.{ap, ap₂, ◌∙◌}
 use Rattle.block.specs.Word.{put_word}
 use Rattle.block.specs.Sums.{check_a, check_b}
@@ -14,7 +14,8 @@ use Rattle.travel.specs.Times.{road_time_of}
 use Rattle.travel.specs.Network.{network_of}
 use Rattle.travel.specs.declared.Timing.TheVariants.{Lasts}
 use Rattle.full.specs.Fault.{verdict_of}
-use Rattle.full.specs.declared.Verdict.TheVariants.{RoadLate}
+use Rattle.full.specs.declared.Fault.TheVariants.{RoadLate}
+use Rattle.full.specs.declared.Verdict.TheVariants.{Checked}
 use Rattle.search.specs.Answer.{answer_of, path_told, ruled, path_after, Searched}
 use Rattle.search.specs.declared.Answer.{Answer}
 use Rattle.search.specs.declared.Answer.TheVariants.{Closed, NoWay}
@@ -62,7 +63,7 @@ pub record Marked : Type 0 where
   pub one_piece_opens : open_of one_piece ≡ Opened one_piece_counts
   pub one_piece_sound : Sound (volume_of one_piece)
   pub one_piece_not_full : FullDay (network_of (volume_of one_piece)) → ⊥
-  pub one_piece_late : verdict_of one_piece ≡ RoadLate 2 70806
+  pub one_piece_late : verdict_of one_piece ≡ Checked (Some (RoadLate 2 70806))
 
 -- they hold
 pub marked_cases : Marked

@@ -1,10 +1,9 @@
 -- What the full check answers for the sample network, and for the one whose edge 2 has its first piece alone. Edges 0 and 1 are roads 0
 -- and 1; edge 2 is compared with the two ways from 1 to 2 piece by piece, as Rivals compares them. What an answer of the check says is
 -- the crate `full`'s; here it is shown to hold.
-use Rattle.std.specs.Prelude.{ℕ, ◌+◌, ◌≤◌, ◌<◌, ◌≡◌, refl}
+use Rattle.std.specs.Prelude.{ℕ, ◌+◌, ◌≤◌, ◌<◌, ◌≡◌, refl, Some, None}
 use Rattle.std.proofs.Math.Path.{ap}
 use Rattle.std.proofs.Common.{sym, ◌∙◌, mod-eq_of_lt, arith}
-use Rattle.std.proofs.lemmas.Bool.{false≢true}
 use Rattle.std.proofs.Math.Decide.{dec_lt}
 use Rattle.theory.specs.Network.{Piece, road_of, pair_of, FullDay}
 use Rattle.records.specs.Format.{Volume, volume_of}
@@ -13,11 +12,12 @@ use Rattle.travel.specs.Last.{IsLast, last_is, above_from}
 use Rattle.travel.specs.Network.{piece_at, piece_of, network_of, arrival}
 use Rattle.travel.specs.Halves.{edge_by_piece}
 use Rattle.full.specs.Cover.{arrival_by}
-use Rattle.full.specs.Fault.{is_full, verdict_of}
+use Rattle.full.specs.Fault.{verdict_of}
 use Rattle.full.specs.Means.{RoadSays, PairSays, Pair}
 use Rattle.full.proofs.FaultMeans.{holds_once}
-use Rattle.full.specs.declared.cover.Cover.TheVariants.{Late, Fine}
-use Rattle.full.specs.declared.Verdict.TheVariants.{Full, RoadLate}
+use Rattle.full.specs.declared.cover.Flaw.TheVariants.{Late}
+use Rattle.full.specs.declared.Fault.TheVariants.{RoadLate}
+use Rattle.full.specs.declared.Verdict.TheVariants.{Checked}
 use Rattle.sample.specs.Bytes.{sample, one_piece}
 use Rattle.sample.specs.Computing.{computing}
 use Rattle.sample.specs.Opens.{sample_counts, one_piece_counts, sample_opens, one_piece_opens}
@@ -27,7 +27,7 @@ use Rattle.sample.specs.Rivals.{Alone, Shared, three, sample_shared, one_piece_s
 
 module _ (vol : Volume) (H : Shared vol) where
   -- a road is covered where the edge of its number is no slower
-  covered : (k : ℕ) → k < 3 → ((x : ℕ) → x < vol.period → arrival vol k x ≤ arrival_by vol (road_of k) x) → RoadSays vol k Fine
+  covered : (k : ℕ) → k < 3 → ((x : ℕ) → x < vol.period → arrival vol k x ≤ arrival_by vol (road_of k) x) → RoadSays vol k None
   unfolding network_of
   covered k h all = record {
     edge = k;
@@ -38,7 +38,7 @@ module _ (vol : Volume) (H : Shared vol) where
   }
 
   -- and so where that edge is the road alone
-  own_edge : (k : ℕ) → k < 3 → Alone vol k (road_of k) → RoadSays vol k Fine
+  own_edge : (k : ℕ) → k < 3 → Alone vol k (road_of k) → RoadSays vol k None
   own_edge k h o = covered k h (λ x l. omega (arith, alone_arrives vol H k x (road_of k) h o))
 
 -- Edge 2 with its first piece alone
@@ -49,7 +49,7 @@ unfolding computing
 one_piece_turn = record { first = refl; one = refl; piece = refl }
 
 -- road 2 is late at 70,806, and not before
-one_piece_late : RoadSays (volume_of one_piece) 2 (Late 70806)
+one_piece_late : RoadSays (volume_of one_piece) 2 (Some (Late 70806))
 one_piece_late =
     let vol = volume_of one_piece in
     let H = one_piece_shared in
@@ -66,15 +66,15 @@ one_piece_late =
     }
 
 -- the check says so: the roads before it are covered
-pub one_piece_verdict : verdict_of one_piece ≡ RoadLate 2 70806
+pub one_piece_verdict : verdict_of one_piece ≡ Checked (Some (RoadLate 2 70806))
 one_piece_verdict =
     let vol = volume_of one_piece in
     let H = one_piece_shared in
     let zeroth = own_edge vol H 0 (omega arith) H.edge_0 in
     let first = own_edge vol H 1 (omega arith) H.edge_1 in
-    let before : (k : ℕ) → k < 3 → k < 2 → RoadSays vol k Fine =
-    three (λ k. k < 2 → RoadSays vol k Fine) (λ l. zeroth) (λ l. first) (λ l. absurd (omega arith)) in
-    holds_once one_piece (RoadLate 2 70806) (
+    let before : (k : ℕ) → k < 3 → k < 2 → RoadSays vol k None =
+    three (λ k. k < 2 → RoadSays vol k None) (λ l. zeroth) (λ l. first) (λ l. absurd (omega arith)) in
+    holds_once one_piece (Checked (Some (RoadLate 2 70806))) (
       (one_piece_counts, one_piece_opens),
       record { there = omega (arith, H.three_roads); before = λ k l. before k (omega arith) l; says = one_piece_late },
     )
@@ -82,7 +82,7 @@ one_piece_verdict =
 -- so it is not full
 pub one_piece_not_full : FullDay (network_of (volume_of one_piece)) → ⊥
 one_piece_not_full full =
-    false≢true (ap is_full (sym one_piece_verdict ∙ holds_once one_piece Full ((one_piece_counts, one_piece_opens), full)))
+    cc (sym one_piece_verdict ∙ holds_once one_piece (Checked None) ((one_piece_counts, one_piece_opens), full))
 
 -- The sample
 
@@ -143,19 +143,19 @@ module _ (vol : Volume) (H : Shared vol) (E : ThreePieces vol) where
           omega (arith, by_last x 2 (pair_of 0 1) h last E.last, turn_last vol H x (omega arith) (omega (arith, H.daily)))
 
 -- each road is covered
-sample_roads : (k : ℕ) → k < 3 → RoadSays (volume_of sample) k Fine
+sample_roads : (k : ℕ) → k < 3 → RoadSays (volume_of sample) k None
 sample_roads =
     let vol = volume_of sample in
     let H = sample_shared in
-    three (λ k. RoadSays vol k Fine) (own_edge vol H 0 (omega arith) H.edge_0) (own_edge vol H 1 (omega arith) H.edge_1)
+    three (λ k. RoadSays vol k None) (own_edge vol H 0 (omega arith) H.edge_0) (own_edge vol H 1 (omega arith) H.edge_1)
     (covered vol H 2 (omega arith) (λ x l. (never_slower vol H sample_pieces x l).0))
 
 -- edges 0 and 1 are the only pair, and edge 2 covers it
-sample_pairs : (l : ℕ) → l < 3 → (r : ℕ) → r < 3 → Pair (volume_of sample) l r → PairSays (volume_of sample) l r Fine
+sample_pairs : (l : ℕ) → l < 3 → (r : ℕ) → r < 3 → Pair (volume_of sample) l r → PairSays (volume_of sample) l r None
 unfolding computing
 sample_pairs =
     let vol = volume_of sample in
-    let Covered : ℕ → ℕ → Type 0 = λ l r. Pair vol l r → PairSays vol l r Fine in
+    let Covered : ℕ → ℕ → Type 0 = λ l r. Pair vol l r → PairSays vol l r None in
     let only : Covered 0 1 = λ p. record {
       edge = 2;
       there = omega arith;
@@ -169,10 +169,10 @@ sample_pairs =
     (λ r h p. absurd (omega (arith, p.below_from)))
 
 -- the sample network is full
-pub sample_full : verdict_of sample ≡ Full
+pub sample_full : verdict_of sample ≡ Checked None
 unfolding computing
 sample_full =
-    holds_once sample Full (
+    holds_once sample (Checked None) (
       (sample_counts, sample_opens),
       record {
         road = sample_roads;

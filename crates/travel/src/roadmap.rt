@@ -15,6 +15,16 @@ pub struct Roadmap<'a> {
     pub ghost linked: { Linked (volume_of times.opened.records.bytes.now) first.now next.now },
 }
 
+impl<'a> Roadmap<'a> {
+    // The times of a volume with the index of its edges.
+    pub fn new(times: Timetable<'a>, first: &'a [u16], next: &'a [u16]) -> Self
+        requires { Linked (volume_of times.opened.records.bytes.now) first.now next.now }
+        ensures { result.times.opened.records.bytes.now ≡ times.entry.opened.records.bytes.now }
+    {
+        Roadmap { times, first, next }
+    }
+}
+
 impl Roadmap<'_> {
     fn index(&self) -> Index<'_>
         ensures { result.records.bytes.now ≡ self.now.times.opened.records.bytes.now }

@@ -1,27 +1,32 @@
-use mathlib.Core.Path.{sym, ◌∙◌}
-use native.Mathlib.Omega.{arith}
-use lib.ListN.{replicate, length-replicate}
-use Rattle.full.proofs.FaultFound.{faults_road, faults_pair}
+use Rattle.std.proofs.Common.{ℕ, refl, sym, arith, List, replicate}
+use Rattle.std.proofs.lemmas.List.{length-replicate}
 use Rattle.records.specs.Format.{volume_of}
+use Rattle.records.specs.Index.{indexed_linked}
 use Rattle.travel.specs.Digest.{digest_made}
+use Rattle.full.specs.FaultRow.{not_full}
+use Rattle.full.proofs.FaultFound.{faults_road, faults_pair}
 use Rattle.full.proofs.fault_of.Goals as goal
 
-pub roads_fault-found-requires-clause-digest : goal.roads_fault-found-requires-clause-digest
-roads_fault-found-requires-clause-digest c =
-    let few = c.requires.few in
-    let D = digest_made (volume_of c.args.v.now) (replicate 20481 0) (simp length-replicate (omega (arith, c.requires.counted.edges, c.requires.counted.roads, few))) in
-    rw c.make_digest.ensures D
+pub invariant_of-times : goal.invariant_of-times
+invariant_of-times c =
+    let r = c.args.opened.now.records in
+    let zeros : List ℕ = replicate 20481 0 in
+    let D = digest_made (volume_of r.bytes.now) zeros (omega (arith, length-replicate {A = ℕ} 20481 0, r.counted.edges, r.counted.roads, r.few.edges, r.few.roads)) in
+    record { told = rw c.make_digest.ensures D }
 
-pub returns-in_default : goal.returns-in_default
-returns-in_default c =
-    faults_road (volume_of c.args.v.now) _ c.roads_fault-found.ensures c.in_default.not-Full
+pub new-map-requires : goal.new-map-requires
+new-map-requires c =
+    let r = c.args.opened.now.records in
+    indexed_linked (volume_of r.bytes.now) _ _ _ _
+    (simp length-replicate (omega (arith, r.counted.junctions, r.few.junctions)))
+    (simp length-replicate (omega (arith, r.counted.edges, r.few.edges)))
+    c.index_edges.ensures
 
-pub lefts_fault-requires-clause-digest : goal.lefts_fault-requires-clause-digest
-lefts_fault-requires-clause-digest c =
-    let few = c.requires.few in
-    let D = digest_made (volume_of c.args.v.now) (replicate 20481 0) (simp length-replicate (omega (arith, c.requires.counted.edges, c.requires.counted.roads, few))) in
-    rw c.make_digest.ensures D
+pub returns-in-Some : goal.returns-in-Some
+returns-in-Some c =
+    faults_road (volume_of c.args.opened.now.records.bytes.now) _ (rw c.new-map.ensures at c.in-Some.ensures) (not_full _ refl)
 
 pub returns : goal.returns
 returns c =
-    faults_pair (volume_of c.args.v.now) _ (sym c.roads_fault-found.ensures ∙ c.in-Full.is) c.lefts_fault.ensures
+    let e = c.new-map.ensures in
+    faults_pair (volume_of c.args.opened.now.records.bytes.now) _ (sym (rw e at c.in_default.ensures)) (rw e at c.lefts_fault.ensures)

@@ -1,23 +1,24 @@
-use mathlib.Core.Path.{sym, ◌∙◌}
-use native.Mathlib.Omega.{arith}
-use Rattle.full.specs.CoverFound.{edge_high, cover_missing, cover_fine, cover_late}
-use Rattle.full.specs.Cover.{named}
-use Rattle.records.specs.Format.{volume_of, period_is}
+use Rattle.std.proofs.Common.{refl, sym, ◌∙◌, arith}
+use Rattle.records.specs.Format.{volume_of}
+use Rattle.full.specs.CoverFound.{cover_missing, cover_fine, cover_late}
+use Rattle.full.specs.Turns.{way_of}
 use Rattle.full.proofs.cover.cover_of.Goals as goal
 
-pub returns-then-e-edges : goal.returns-then-e-edges
-returns-then-e-edges c =
-    sym (cover_missing (volume_of c.args.v.now) c.args.u c.args.w (named c.args.left c.args.right) _ c.find_edge-e.ensures (c.if-e-edges.true ∙ c.requires.ready.counted))
+pub returns-in_default : goal.returns-in_default
+returns-in_default c =
+    let vol = volume_of c.args.map.now.times.opened.records.bytes.now in
+    sym (cover_missing vol c.args.u c.args.w (way_of c.args.way) _ refl c.in_default.ensures)
 
-pub first_late-x-requires-clause-e_bound : goal.first_late-x-requires-clause-e_bound
-first_late-x-requires-clause-e_bound c = omega (arith, c.find_edge-e.ensures, c.if-e-edges.false, c.requires.ready.counted, edge_high (volume_of c.args.v.now) c.args.u c.args.w)
-
-pub returns-then-x-eq-PERIOD : goal.returns-then-x-eq-PERIOD
-returns-then-x-eq-PERIOD c =
-    sym (cover_fine (volume_of c.args.v.now) c.args.u c.args.w (named c.args.left c.args.right) _ c.find_edge-e.ensures (λ z. c.if-e-edges.false (z ∙ sym c.requires.ready.counted))
-    _ c.first_late-x.ensures (c.if-x-eq-PERIOD.true ∙ sym (period_is c.args.v.now)))
+pub returns-in_err-x : goal.returns-in_err-x
+returns-in_err-x c =
+    let vol = volume_of c.args.map.now.times.opened.records.bytes.now in
+    let edge = c.in-Some.ensures in
+    c.from_residual.ensures
+    ∙ sym (cover_fine vol c.args.u c.args.w (way_of c.args.way) _ edge.0 (λ z. omega (arith, edge.1)) _ refl c.in_err-x.ensures)
 
 pub returns : goal.returns
 returns c =
-    sym (cover_late (volume_of c.args.v.now) c.args.u c.args.w (named c.args.left c.args.right) _ c.find_edge-e.ensures (λ z. c.if-e-edges.false (z ∙ sym c.requires.ready.counted))
-    _ c.first_late-x.ensures (λ z. c.if-x-eq-PERIOD.false (z ∙ period_is c.args.v.now)))
+    let vol = volume_of c.args.map.now.times.opened.records.bytes.now in
+    let edge = c.in-Some.ensures in
+    let late = c.in_ok-x.ensures in
+    sym (cover_late vol c.args.u c.args.w (way_of c.args.way) _ edge.0 (λ z. omega (arith, edge.1)) _ late.0 (λ z. omega (arith, late.1)))
