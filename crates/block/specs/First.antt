@@ -1,6 +1,6 @@
 -- The first number that fails a test. Every "first fault" of document 01 is one: the first bad block, road, edge, late second.
 -- A loop that counts k up to n has the invariant "the answer from k on is the answer"; the three laws of a turn are here.
-use Rattle.std.specs.Prelude.{◌≡◌, ℕ, zero, suc, ◌+◌, ◌-◌, ◌<◌, ◌≤◌, Bool, true, false, ◌==◌, ◌≢◌, refl, Option, Some, None}
+use Rattle.std.specs.Prelude.{◌≡◌, ℕ, zero, suc, ◌+◌, ◌-◌, ◌<◌, ◌≤◌, Bool, true, false, ◌==◌, ◌≢◌, refl, Option, MatchOption}
 use Rattle.std.proofs.Common.{ap, sym, ◌∙◌, arith, add-one, eq-eqb, ne_eqb, eqb-true}
 use Rattle.std.proofs.lemmas.Bool.{false≢true}
 use Rattle.std.proofs.Math.Decide.{dec_lt}
@@ -58,49 +58,9 @@ first_end p n k le h = let fuel : n - k ≡ 0 = omega arith in ap (λ (m : ℕ).
 
 -- the first as an option
 
--- a number that is found below n, or none where it is n
-unfoldable pub below : ℕ → ℕ → Option ℕ
-below n k = choose (k == n) None (Some k)
-
-pub below_some : (n k : ℕ) → k < n → below n k ≡ Some k
-unfolding below
-below_some n k h = choose_no _ _ (ne_eqb k n (λ z. omega arith))
-
-pub below_none : (n k : ℕ) → k ≡ n → below n k ≡ None
-unfolding below
-below_none n k e = choose_yes _ _ (eq-eqb k n e)
-
--- what is found is the number, and it is not n; nothing is found where it is n
-
-is_some : {i k : ℕ} → Some i ≡ Some k → i ≡ k
-is_some h = (cc)
-
-not_some : {k : ℕ} → None ≡ Some k → ⊥
-not_some h = (cc)
-
-pub below_found : (n k i : ℕ) → Some i ≡ below n k → (i ≢ n) × (i ≡ k)
-unfolding below choose
-below_found n k i h = go (k == n) refl h
-  where
-    go : (t : Bool) → (k == n) ≡ t → Some i ≡ choose t None (Some k) → (i ≢ n) × (i ≡ k)
-    go true e h = absurd (not_some (sym h))
-    go false e h = let q = is_some h in (λ z. false≢true (sym e ∙ eq-eqb k n (sym q ∙ z)), q)
-
-pub below_nothing : (n k : ℕ) → None ≡ below n k → k ≡ n
-unfolding below choose
-below_nothing n k h = go (k == n) refl h
-  where
-    go : (t : Bool) → (k == n) ≡ t → None ≡ choose t None (Some k) → k ≡ n
-    go true e h = eqb-true k n e
-    go false e h = absurd (not_some h)
-
--- k fails
-pub found_stop : (p : ℕ → Bool) (n k : ℕ) → k < n → p k ≡ false → Passed p n k → below n (first_not p n 0) ≡ Some k
-found_stop p n k lt e h = rw (sym (first_stop p n k lt e h)) (below_some n k lt)
-
--- all have passed
-pub found_end : (p : ℕ → Bool) (n k : ℕ) → n ≤ k → k ≤ n → Passed p n k → below n (first_not p n 0) ≡ None
-found_end p n k le ge h = below_none n _ (let q = first_end p n k le h in omega arith)
+-- a number that is found below n is k, and none is found where k is n
+abbrev pub Found : Option ℕ → ℕ → ℕ → Type 0
+Found found k n = MatchOption found (k ≡ n) (λ x. (x ≡ k) × (x < n))
 
 -- what the first says
 

@@ -9,7 +9,7 @@ ghost use Rattle.block.specs.Sums.{Summed, Gained};
 ghost use Rattle.block.specs.Lanes.{Joined};
 ghost use Rattle.block.specs.Whole.{whole};
 ghost use Rattle.block.specs.Seal.{seal_to, sealed, sealing};
-ghost use Rattle.block.specs.First.{below};
+ghost use Rattle.block.specs.First.{Found};
 ghost use Rattle.block.specs.Good.{good, first_bad};
 
 use crate::refusal::Refusal;
@@ -192,7 +192,7 @@ fn carries(v: &[u8], k: usize, s: Sums) -> bool
 // The first of the n blocks of v whose A or B differs from what stands there.
 pub fn first_bad(v: &[u8], n: usize) -> Option<usize>
     requires { (512 * n ≤ length v.now) × (n ≤ 3381) }
-    ensures { result ≡ below n (first_bad v.now n) }
+    ensures { Found result (first_bad v.now n) n }
 {
     for k in 0..n {
         if !carries(v, k, sums_of(v, k)) {

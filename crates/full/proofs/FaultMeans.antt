@@ -242,13 +242,17 @@ module _ (vol : Volume) where
 
 -- any bytes
 
+-- what is said of an opened volume is said of its bytes
+means_opened : (v : List ℕ) → Opens v → (a : Option Fault) → Says (volume_of v) a → Means v (Ok a)
+means_opened v o a h = (o, h)
+
 -- the check's answer holds
 pub answer_holds : (v : List ℕ) → Means v (verdict_of v)
 answer_holds v = go (open_of v) refl
   where
     go : (o : Result Counts Refusal) → open_of v ≡ o → Means v (verdict_of v)
     go (Ok c) e =
-        rw (verdict_opened v c e) ((c, e), faults_say (volume_of v))
+        rw (verdict_opened v c e) (means_opened v (c, e) (fault_of (volume_of v)) (faults_say (volume_of v)))
     go (Err why) e = rw (verdict_refused v why e) e
 
 -- and answered

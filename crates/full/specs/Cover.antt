@@ -1,7 +1,7 @@
 -- How the edges cover a road, or two edges in turn: document 01, "Full". What is to be covered is a `Piece` of the theory, so that
 -- roads and pairs have one definition: no edge with its two ends, or the first second at which that edge is late. Which roads and
 -- pairs are to be covered, and in which order, is in Fault.
-use Rattle.std.specs.Prelude.{ℕ, ◌<◌, ◌≡◌, Bool, Option, Some, None, MatchOption, not, eqb, leb}
+use Rattle.std.specs.Prelude.{ℕ, ◌<◌, ◌≡◌, Bool, Option, Some, None, not, eqb, leb}
 use Rattle.block.specs.Choose.{choose, both}
 use Rattle.block.specs.First.{first_not}
 use Rattle.theory.specs.Network.{Piece, road_of, pair_of, by_piece, edge_arr}
@@ -13,10 +13,6 @@ use Rattle.full.specs.declared.cover.Flaw.TheVariants.{Missing, Late}
 -- a road or two edges in turn, by two numbers as a piece has them: the right is empty for a road
 unfoldable pub named : ℕ → ℕ → Piece
 named left right = choose (eqb right empty) (road_of left) (pair_of left right)
-
--- what a search answers whose first number is k, where that is below n, and which finds none where it is n
-abbrev pub Found : Option ℕ → ℕ → ℕ → Type 0
-Found found k n = MatchOption found (k ≡ n) (λ x. (x ≡ k) × (x < n))
 
 module _ (vol : Volume) where
   -- the arrival by the road, or by the two edges in turn, entered at x

@@ -2,7 +2,8 @@
 // both.
 ghost use Rattle.std.specs.Prelude.{◌≡◌, ◌+◌, ◌≤◌, ◌<◌};
 ghost use Rattle.records.specs.Format.{volume_of};
-ghost use Rattle.full.specs.Cover.{Found, arrival_by, not_after, edge_with, first_late, cover_of};
+ghost use Rattle.block.specs.First.{Found};
+ghost use Rattle.full.specs.Cover.{arrival_by, not_after, edge_with, first_late, cover_of};
 ghost use Rattle.full.specs.Turns.{Known, way_of};
 ghost use Rattle.full.specs.Parts.{piece_end};
 ghost use Rattle.full.specs.Runs.{first_from};

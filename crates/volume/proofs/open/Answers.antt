@@ -1,5 +1,4 @@
 use mathlib.Core.Path.{refl, sym, ◌∙◌}
-use Rattle.block.specs.First.{below_found, below_nothing}
 use native.Mathlib.Omega.{arith}
 use Rattle.volume.specs.Open.{open_length, open_block, open_edition, open_rest}
 use Rattle.records.specs.Format.{volume_of}
@@ -16,8 +15,8 @@ first_bad-requires c =
 pub returns-in-Some : goal.returns-in-Some
 returns-in-Some c =
     let w = sym c.is_whole.ensures ∙ c.if-not-is_whole.false in
-    let f = below_found _ _ _ (sym c.in-Some.is ∙ c.first_bad.ensures) in
-    sym (open_block c.args.v.now w _ f.1 f.0)
+    let f = c.in-Some.ensures in
+    sym (open_block c.args.v.now w _ f.0 (λ z. omega (arith, f.1)))
 
 pub content-edition-requires : goal.content-edition-requires
 content-edition-requires c =
@@ -27,7 +26,7 @@ pub returns-then-edition-ne1 : goal.returns-then-edition-ne1
 unfolding volume_of
 returns-then-edition-ne1 c =
     let w = sym c.is_whole.ensures ∙ c.if-not-is_whole.false in
-    sym (open_edition c.args.v.now w _ refl (below_nothing _ _ (sym c.in_default.is ∙ c.first_bad.ensures)) _ c.content-edition.ensures c.if-edition-ne1.true)
+    sym (open_edition c.args.v.now w _ refl c.in_default.ensures _ c.content-edition.ensures c.if-edition-ne1.true)
 
 pub open_counts-requires : goal.open_counts-requires
 open_counts-requires c =
@@ -39,4 +38,4 @@ unfolding volume_of
 returns c =
     let w = sym c.is_whole.ensures ∙ c.if-not-is_whole.false in
     c.open_counts.ensures
-    ∙ sym (open_rest c.args.v.now w _ refl (below_nothing _ _ (sym c.in_default.is ∙ c.first_bad.ensures)) _ c.content-edition.ensures c.if-edition-ne1.false)
+    ∙ sym (open_rest c.args.v.now w _ refl c.in_default.ensures _ c.content-edition.ensures c.if-edition-ne1.false)
