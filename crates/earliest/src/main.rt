@@ -7,7 +7,7 @@ ghost use Rattle.std.specs.Prelude.{◌≤◌, length, IfOk};
 use block::word;
 use search::{Answer, search};
 use std::io::{self, Read};
-use telling::say::{closed, report, text};
+use telling::say::{closed, report};
 
 // Answers the question at the start of the input over the volume behind it.
 fn ask(rt: &impl Print, input: &[u8], work: &mut [u64], path: &mut [u32]) -> io::Result<()>
@@ -21,7 +21,7 @@ fn ask(rt: &impl Print, input: &[u8], work: &mut [u64], path: &mut [u32]) -> io:
     let Answer::Closed(arrival, used, roads) = answer else {
         return report(rt, answer);
     };
-    closed(rt, arrival, used, path, roads)
+    closed(rt, arrival, used, &path[..roads])
 }
 
 // Reads until the buffer is full or the input ends, and answers how many bytes it put at the start of the buffer.
@@ -29,6 +29,7 @@ fn read_full(reader: &mut impl Read, input: &mut [u8]) -> io::Result<usize>
     ensures { IfOk result (λ n. n ≤ length input.new) }
 {
     let mut got: usize = 0;
+    // no `for`: a read says how far it came, and std's own `read_to_end` wants a heap
     while got < input.len() {
         let n = reader.read(&mut input[got..])?;
         if n == 0 {
@@ -44,13 +45,13 @@ fn main(rt: HostRuntime) -> io::Result<()> {
     let mut input = [0u8; 65553];
     let got = read_full(&mut rt.stdin(), &mut input)?;
     if got < 16 {
-        return text(&rt, b"no question\n");
+        return println!(rt; "no question");
     }
     if 65552 < got {
-        return text(&rt, b"too large\n");
+        return println!(rt; "too large");
     }
     let mut work = [0u64; 8192];
     let mut path = [0u32; 4096];
     ask(&rt, &input[..got], &mut work, &mut path)?;
-    text(&rt, b"\n")
+    println!(rt)
 }

@@ -4,7 +4,8 @@
 
 use std::io::{self, Write};
 
-const EMPTY: u32 = 4294967295;
+// The word of an empty middle.
+const EMPTY: u32 = u32::MAX;
 
 // Head; roads; points; edges; pieces.
 const WORDS: [u32; 56] = [
@@ -14,12 +15,9 @@ const WORDS: [u32; 56] = [
 ];
 
 fn main(rt: HostRuntime) -> io::Result<()> {
-    let words = WORDS;
     let mut v = [0u8; 512];
-    let mut i: usize = 0;
-    while i < 56 {
-        block::put_word(&mut v, i, words[i]);
-        i += 1;
+    for (i, x) in WORDS.iter().enumerate() {
+        block::put_word(&mut v, i, *x);
     }
     block::seal(&mut v);
     io::writer(&rt).write_all(&v)

@@ -2,13 +2,14 @@
 // to the hierarchy search and to the search over the bare roads.
 #![tactic(auto)]
 
-use crate::bare::{NEVER, arrival, drive, junctions};
+use crate::bare::{Trip, junctions};
 use full::check;
 use search::{Answer, search};
+use std::fmt::{self, Display};
 use std::io;
-use telling::line::{checked, heading, should};
+use telling::line::{heading, told};
 use telling::networks::{ferry, hill, ring, sample};
-use telling::say::{labelled, text};
+use telling::say::Said;
 
 mod bare;
 
@@ -20,111 +21,118 @@ enum Seen {
     Differs,
 }
 
-#[derive(Clone, Copy)]
+// How many questions came out in each way.
+#[derive(Clone, Copy, Default)]
 struct Tally {
     arrive: u64,
     no_way: u64,
     differ: u64,
 }
 
-// What is seen where both say the same, or not.
-fn if_same(same: bool, what: Seen) -> Seen {
-    if same { what } else { Seen::Differs }
+impl Tally {
+    fn count(&mut self, seen: Seen) {
+        let n = match seen {
+            Seen::Arrives => &mut self.arrive,
+            Seen::NoWay => &mut self.no_way,
+            Seen::Differs => &mut self.differ,
+        };
+        *n = n.saturating_add(1);
+    }
 }
 
-fn compare(v: &[u8], from: u32, to: u32, departure: u32) -> Seen {
+impl Display for Tally {
+    fn fmt<W: fmt::Write>(&self, f: &mut fmt::Formatter<W>) -> fmt::Result {
+        let Tally {
+            arrive,
+            no_way,
+            differ,
+        } = *self;
+        write!(f, "{arrive} arrive, {no_way} no way, {differ} differ")
+    }
+}
+
+fn compare(v: &[u8], trip: Trip) -> Seen {
     let mut work = [0u64; 64];
     let mut path = [0u32; 64];
-    let bare = arrival(v, from, to, departure);
-    let a = search(v, from, to, departure, 4294967295, &mut work, &mut path);
+    let Trip {
+        from,
+        to,
+        departure,
+    } = trip;
+    let bare = trip.arrival(v);
+    let a = search(v, from, to, departure, u32::MAX, &mut work, &mut path);
     match a {
-        Answer::Closed(at, _, n) => {
-            let driven = drive(v, from, to, departure, &path, n);
-            if_same(driven == at && bare == at, Seen::Arrives)
+        Answer::Closed(at, _, n) if bare == Some(at) && trip.driven(v, &path[..n]) == Some(at) => {
+            Seen::Arrives
         }
-        Answer::NoWay(_) => if_same(bare == NEVER, Seen::NoWay),
-        Answer::Open(_, _, _) => Seen::Differs,
-        Answer::Refused(_, _) => Seen::Differs,
+        Answer::NoWay(_) if bare.is_none() => Seen::NoWay,
+        _ => Seen::Differs,
     }
 }
 
-// The departures, 54 in number: four days in steps, and around midnight and the end of 32 bits.
-fn departure(i: u32) -> u32 {
-    match i {
-        44 => 1,
-        45 => 59,
-        46 => 3600,
-        47 => 86399,
-        48 => 86400,
-        49 => 86401,
-        50 => 172799,
-        51 => 4294900000,
-        52 => 4294967294,
-        53 => 4294967295,
-        _ => i % 44 * 7919,
+// Departures around midnight and at the end of 32 bits.
+const BOUNDARIES: [u32; 10] = [
+    1,
+    59,
+    3600,
+    86399,
+    86400,
+    86401,
+    172799,
+    4294900000,
+    4294967294,
+    u32::MAX,
+];
+
+// Asks from one junction to another at 54 departures: four days in steps, and the boundaries.
+fn compare_pair(v: &[u8], from: u32, to: u32, t: &mut Tally) {
+    let steps = (0..44).map(|i: u32| i * 7919);
+    for departure in steps.chain(BOUNDARIES) {
+        let trip = Trip {
+            from,
+            to,
+            departure,
+        };
+        t.count(compare(v, trip));
     }
 }
 
-fn one_more(n: u64) -> u64 {
-    n % 1000000 + 1
-}
-
-fn counted(mut t: Tally, s: Seen) -> Tally {
-    match s {
-        Seen::Arrives => t.arrive = one_more(t.arrive),
-        Seen::NoWay => t.no_way = one_more(t.no_way),
-        Seen::Differs => t.differ = one_more(t.differ),
+// Asks from one junction to each of n.
+fn compare_from(v: &[u8], from: u32, n: u32, t: &mut Tally) {
+    for to in 0..n {
+        compare_pair(v, from, to, t);
     }
-    t
 }
 
 // All questions to a volume of at most 8 junctions.
 fn compare_all(v: &[u8]) -> Tally {
-    let n = junctions(v);
-    let mut t = Tally {
-        arrive: 0,
-        no_way: 0,
-        differ: 0,
-    };
-    let mut q: u32 = 0;
-    while q < 3456 {
-        let from = q / 432;
-        let to = q / 54 % 8;
-        if from < n {
-            if to < n {
-                t = counted(t, compare(v, from, to, departure(q % 54)));
-            }
-        }
-        q += 1;
+    let n = junctions(v).min(8);
+    let mut t = Tally::default();
+    for from in 0..n {
+        compare_from(v, from, n, &mut t);
     }
     t
 }
 
 // The lines of a volume: is it full, and how did the questions come out?
-fn swept(rt: &impl Print, label: &[u8], v: &[u8]) -> io::Result<()> {
-    checked(rt, label, check(v), b"full")?;
-    let t = compare_all(v);
-    text(rt, label)?;
-    labelled(rt, b": ", t.arrive)?;
-    labelled(rt, b" arrive, ", t.no_way)?;
-    labelled(rt, b" no way, ", t.differ)?;
-    text(rt, b" differ")?;
-    should(rt, b"0 differ")
+fn swept(rt: &impl Print, label: &str, v: &[u8]) -> io::Result<()> {
+    told(rt, label, Said(check(v)), "full")?;
+    told(rt, label, compare_all(v), "0 differ")
 }
 
 fn main(rt: HostRuntime) -> io::Result<()> {
     heading(
         &rt,
-        b"Every pair of junctions at 54 departures, beside a search over the bare roads",
+        "Every pair of junctions at 54 departures, beside a search over the bare roads",
     )?;
     let mut v = [0u8; 512];
     sample(&mut v);
-    swept(&rt, b"the sample", &v)?;
+    swept(&rt, "the sample", &v)?;
     hill(&mut v);
-    swept(&rt, b"round the hill", &v)?;
+    swept(&rt, "round the hill", &v)?;
     ring(&mut v);
-    swept(&rt, b"the ring", &v)?;
+    swept(&rt, "the ring", &v)?;
     let mut v = [0u8; 1024];
     ferry(&mut v);
-    swept(&rt, b"the ferry", &v)
+    swept(&rt, "the ferry", &v)
 }

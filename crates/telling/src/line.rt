@@ -1,99 +1,66 @@
 // The lines of the trials: what was asked, what came out, and what should.
 ghost use Rattle.telling.specs.Room.{RoadsFit};
 
-use crate::say::{answer, labelled, number, opening, sealing, text, timing, verdict};
-use block::Sealing;
-use full::Verdict;
+use crate::say::{closed, report};
 use search::Answer;
+use std::fmt::{self, Display};
 use std::io;
-use travel::Timing;
-use volume::Opening;
 
 // A heading, after an empty line.
-pub fn heading(rt: &impl Print, t: &[u8]) -> io::Result<()>
+pub fn heading(rt: &impl Print, t: &str) -> io::Result<()>
     ensures { Unit {0} }
 {
-    text(rt, b"\n")?;
-    text(rt, t)?;
-    text(rt, b"\n")
+    println!(rt; "\n{t}")
 }
 
-// Ends a line with what it should say.
-pub fn should(rt: &impl Print, line: &[u8]) -> io::Result<()>
-    ensures { Unit {0} }
-{
-    text(rt, b"; should be ")?;
-    text(rt, line)?;
-    text(rt, b"\n")
-}
-
-// The line of sealing a volume.
-pub fn sealed(rt: &impl Print, label: &[u8], a: Sealing, line: &[u8]) -> io::Result<()>
-    ensures { Unit {0} }
-{
-    text(rt, label)?;
-    text(rt, b": ")?;
-    sealing(rt, a)?;
-    should(rt, line)
-}
-
-// The line of opening a volume.
-pub fn opened(rt: &impl Print, label: &[u8], a: Opening, line: &[u8]) -> io::Result<()>
-    ensures { Unit {0} }
-{
-    text(rt, label)?;
-    text(rt, b": ")?;
-    opening(rt, a)?;
-    should(rt, line)
-}
-
-// The line of the full check of a volume.
-pub fn checked(rt: &impl Print, label: &[u8], a: Verdict, line: &[u8]) -> io::Result<()>
-    ensures { Unit {0} }
-{
-    text(rt, label)?;
-    text(rt, b": ")?;
-    verdict(rt, a)?;
-    should(rt, line)
-}
-
-// The line of a travel time: of a road or an edge, its number, and the departure.
-pub fn timed(
+// What an answer is the answer to, the answer, and what it should say.
+pub fn told<L: Display + Drop, T: Display + Drop>(
     rt: &impl Print,
-    what: &[u8],
-    k: u32,
-    departure: u32,
-    a: Timing,
-    line: &[u8],
+    label: L,
+    answer: T,
+    line: &str,
 ) -> io::Result<()>
     ensures { Unit {0} }
 {
-    labelled(rt, what, k as u64)?;
-    labelled(rt, b" at ", departure as u64)?;
-    text(rt, b": ")?;
-    timing(rt, a)?;
-    should(rt, line)
+    println!(rt; "{label}: {answer}; should be {line}")
+}
+
+// A question to the search.
+#[derive(Clone, Copy)]
+pub struct Question {
+    pub from: u32,
+    pub to: u32,
+    pub departure: u32,
+    pub budget: u32,
+}
+
+impl Display for Question {
+    fn fmt<W: fmt::Write>(&self, f: &mut fmt::Formatter<W>) -> fmt::Result {
+        let Question {
+            from,
+            to,
+            departure,
+            budget,
+        } = *self;
+        write!(f, "{from} to {to} at {departure} budget {budget}")
+    }
 }
 
 // The line of a question, with the roads that stand in the path list.
 pub fn asked(
     rt: &impl Print,
-    from: u32,
-    to: u32,
-    departure: u32,
-    budget: u32,
-    a: Answer,
+    question: Question,
+    answer: Answer,
     path: &[u32],
-    line: &[u8],
+    line: &str,
 ) -> io::Result<()>
-    requires { RoadsFit a path.now }
+    requires { RoadsFit answer path.now }
     ensures { Unit {0} }
 {
-    number(rt, from as u64)?;
-    labelled(rt, b" to ", to as u64)?;
-    labelled(rt, b" at ", departure as u64)?;
-    labelled(rt, b" budget ", budget as u64)?;
-    text(rt, b": ")?;
-    answer(rt, a, path)?;
-    should(rt, line)
+    print!(rt; "{question}: ")?;
+    match answer {
+        Answer::Closed(arrival, used, roads) => closed(rt, arrival, used, &path[..roads])?,
+        other => report(rt, other)?,
+    }
+    println!(rt; "; should be {line}")
 }

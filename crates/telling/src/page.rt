@@ -5,34 +5,19 @@ ghost use Rattle.telling.specs.Page.{put_content, put_row};
 
 use block::{put_word, seal};
 
-const EMPTY: u32 = 4294967295;
+// The word of an empty middle.
+pub const EMPTY: u32 = u32::MAX;
 
-fn wide(b: u8) -> u32 {
-    b as u32
-}
-
-// Byte i of a text, or a space past its end.
-fn byte(text: &[u8], i: usize) -> u8 {
-    if i < text.len() {
-        return text[i];
-    }
-    b' '
-}
-
-fn in_number(c: u8) -> bool {
-    match c {
-        b'0'..=b'9' => true,
-        b'-' => true,
-        _ => false,
-    }
+// Is a character part of a number, or does it stand between two?
+fn in_number(c: char) -> bool {
+    c == '-' || c.is_ascii_digit()
 }
 
 // The number x with one character more.
-fn grown(x: u32, c: u8) -> u32 {
-    match c {
-        b'0'..=b'9' => x % 100000000 * 10 + wide(c) % 16,
-        b'-' => EMPTY,
-        _ => 0,
+fn grown(x: u32, c: char) -> u32 {
+    match c.to_digit(10) {
+        Some(digit) => x % 100000000 * 10 + digit,
+        None => EMPTY,
     }
 }
 
@@ -52,30 +37,29 @@ pub fn put_row(v: &mut [u8], w: usize, row: &[u32])
     requires { w < 1000000 }
     ensures { v.new ≡ put_row v.old w row.now (length row.now) }
 {
-    let mut i: usize = 0;
-    while i < row.len() {
-        put(v, w + i, row[i]);
-        i += 1;
+    for (i, x) in row.iter().enumerate() {
+        put(v, w + i, *x);
     }
 }
 
 // Writes the numbers of a text as content words from word 0 on and seals the volume.
-pub fn lay(v: &mut [u8], text: &[u8])
+pub fn lay(v: &mut [u8], text: &str)
     ensures { sealed v.new ≡ v.new }
 {
-    let mut i: usize = 0;
-    let mut w: usize = 0;
-    let mut x: u32 = 0;
-    while i < text.len() {
-        let c = text[i];
-        x = grown(x, c);
-        i += 1;
-        if in_number(c) {
-            if !in_number(byte(text, i)) {
-                put(v, w, x);
-                w += 1;
-            }
-        }
+    let numbers = text
+        .split(|c: char| !in_number(c))
+        .filter(|number| !number.is_empty());
+    for (w, number) in numbers.enumerate() {
+        put(v, w, number.chars().fold(0, grown));
     }
     seal(v);
+}
+
+// A volume of one block with the numbers of a text.
+pub fn one_block(text: &str) -> [u8; 512]
+    ensures { sealed result ≡ result }
+{
+    let mut v = [0u8; 512];
+    lay(&mut v, text);
+    v
 }

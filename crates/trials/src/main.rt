@@ -7,7 +7,6 @@ use crate::questions::questions;
 use crate::sealing::sealing;
 use crate::times::times;
 use std::io;
-use telling::say::text;
 
 mod fullness;
 mod questions;
@@ -15,10 +14,7 @@ mod sealing;
 mod times;
 
 fn main(rt: HostRuntime) -> io::Result<()> {
-    text(
-        &rt,
-        b"Document 01 as programs run it: what comes out, and what should\n",
-    )?;
+    println!(rt; "Document 01 as programs run it: what comes out, and what should")?;
     sealing(&rt)?;
     times(&rt)?;
     questions(&rt)?;

@@ -1,61 +1,64 @@
 // Travel times of the sample's roads and edges.
 use std::io;
-use telling::line::{heading, timed};
+use telling::line::{heading, told};
 use telling::networks::sample;
-use travel::{edge_time, road_time};
+use telling::say::Said;
+use travel::{Timing, edge_time, road_time};
 
-fn road(rt: &impl Print, v: &[u8], road: u32, departure: u32, seconds: &[u8]) -> io::Result<()> {
-    timed(
-        rt,
-        b"road ",
-        road,
-        departure,
-        road_time(v, road, departure),
-        seconds,
-    )
-}
+// A road or an edge, a departure, and the seconds that it should take.
+type Case = (u32, u32, &'static str);
 
-fn edge(rt: &impl Print, v: &[u8], edge: u32, departure: u32, seconds: &[u8]) -> io::Result<()> {
-    timed(
-        rt,
-        b"edge ",
-        edge,
-        departure,
-        edge_time(v, edge, departure),
-        seconds,
-    )
-}
+const ROADS: [Case; 10] = [
+    (0, 0, "60"),
+    (1, 0, "100"),
+    (1, 1, "99"),
+    (1, 60, "70"),
+    (1, 100, "50"),
+    (1, 86399, "99"),
+    (1, 86401, "99"),
+    (1, u32::MAX, "63"),
+    (2, 43200, "150"),
+    (3, 0, "refused 7 0"),
+];
 
-fn roads(rt: &impl Print, v: &[u8]) -> io::Result<()> {
-    road(rt, v, 0, 0, b"60")?;
-    road(rt, v, 1, 0, b"100")?;
-    road(rt, v, 1, 1, b"99")?;
-    road(rt, v, 1, 60, b"70")?;
-    road(rt, v, 1, 100, b"50")?;
-    road(rt, v, 1, 86399, b"99")?;
-    road(rt, v, 1, 86401, b"99")?;
-    road(rt, v, 1, 4294967295, b"63")?;
-    road(rt, v, 2, 43200, b"150")?;
-    road(rt, v, 3, 0, b"refused 7 0")
-}
+const EDGES: [Case; 10] = [
+    (0, 0, "60"),
+    (1, 60, "70"),
+    (2, 0, "130"),
+    (2, 70805, "150"),
+    (2, 70806, "150"),
+    (2, 86358, "150"),
+    (2, 86359, "150"),
+    (2, 86361, "149"),
+    (2, 86399, "130"),
+    (3, 0, "refused 7 0"),
+];
 
-fn edges(rt: &impl Print, v: &[u8]) -> io::Result<()> {
-    edge(rt, v, 0, 0, b"60")?;
-    edge(rt, v, 1, 60, b"70")?;
-    edge(rt, v, 2, 0, b"130")?;
-    edge(rt, v, 2, 70805, b"150")?;
-    edge(rt, v, 2, 70806, b"150")?;
-    edge(rt, v, 2, 86358, b"150")?;
-    edge(rt, v, 2, 86359, b"150")?;
-    edge(rt, v, 2, 86361, b"149")?;
-    edge(rt, v, 2, 86399, b"130")?;
-    edge(rt, v, 3, 0, b"refused 7 0")
+// The lines of roads or edges, whose time is asked by `time`.
+fn timed<F: Fn(&[u8], u32, u32) -> Timing>(
+    rt: &impl Print,
+    v: &[u8],
+    what: &str,
+    time: F,
+    cases: &[Case],
+) -> io::Result<()>
+    requires { F.IsAlwaysCallable time }
+{
+    for &(k, departure, seconds) in cases {
+        told(
+            rt,
+            format_args!("{what} {k} at {departure}"),
+            Said(time(v, k, departure)),
+            seconds,
+        )?;
+    }
+    Ok(())
 }
 
 pub(crate) fn times(rt: &impl Print) -> io::Result<()> {
-    heading(rt, b"Travel times of the sample")?;
+    heading(rt, "Travel times of the sample")?;
     let mut v = [0u8; 512];
     sample(&mut v);
-    roads(rt, &v)?;
-    edges(rt, &v)
+    timed(rt, &v, "road", road_time, &ROADS)?;
+    timed(rt, &v, "edge", edge_time, &EDGES)
 }
