@@ -1,5 +1,5 @@
 -- The number and the values that tell each answer of the face, as host/breezeflint.h says them.
-use Rattle.std.specs.Prelude.{ℕ, List, [], ◌∷◌}
+use Rattle.std.specs.Prelude.{ℕ, Option, None, Some, List, [], ◌∷◌}
 use Rattle.block.specs.Seal.{sealing, paper}
 use Rattle.volume.specs.declared.Opening.{Opening}
 use Rattle.volume.specs.declared.Opening.TheVariants.{Opened, Refused as NotOpened}
@@ -7,8 +7,6 @@ use Rattle.travel.specs.declared.Timing.{Timing}
 use Rattle.travel.specs.declared.Timing.TheVariants.{Lasts, Refused as NotTimed}
 use Rattle.full.specs.declared.Verdict.{Verdict}
 use Rattle.full.specs.Paper.{Paper, found, refusal, paper as onPaper}
-use Rattle.settle.specs.declared.Upper.{Upper}
-use Rattle.settle.specs.declared.Upper.TheVariants.{At, Missing}
 use Rattle.search.specs.declared.Answer.{Answer}
 use Rattle.search.specs.declared.Answer.TheVariants.{Closed, NoWay, Open, Refused as NotSearched}
 use Rattle.exports.specs.Told.{Told}
@@ -47,9 +45,9 @@ abbrev pub verdict_told : Verdict → Told
 verdict_told verdict = paper_told (onPaper verdict)
 
 -- a window: lower end, 1 or 0 for whether there is an upper end, the upper end or 0, used
-abbrev pub window_told : ℕ → Upper → ℕ → Told
-window_told lower (At most) used = record { number = 0; values = 2 ∷ lower ∷ 1 ∷ most ∷ used ∷ [] }
-window_told lower Missing used = record { number = 0; values = 2 ∷ lower ∷ 0 ∷ 0 ∷ used ∷ [] }
+abbrev pub window_told : ℕ → Option ℕ → ℕ → Told
+window_told lower (Some most) used = record { number = 0; values = 2 ∷ lower ∷ 1 ∷ most ∷ used ∷ [] }
+window_told lower None used = record { number = 0; values = 2 ∷ lower ∷ 0 ∷ 0 ∷ used ∷ [] }
 
 -- the search: kind 0, arrival, used, roads; kind 1, used; kind 2 and the window
 abbrev pub answer_told : Answer → Told

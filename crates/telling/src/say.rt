@@ -6,7 +6,6 @@ use block::Sealing;
 use full::Verdict;
 use records::tables::Counts;
 use search::Answer;
-use settle::Upper;
 use std::io::{self, Write};
 use travel::Timing;
 use volume::Opening;
@@ -51,10 +50,10 @@ fn roads(rt: &impl Print, path: &[u32], n: usize) -> io::Result<()>
 }
 
 // The upper end of an open answer, `-` if there is none.
-fn upper(rt: &impl Print, end: Upper) -> io::Result<()> {
+fn upper(rt: &impl Print, end: Option<u64>) -> io::Result<()> {
     match end {
-        Upper::At(high) => number(rt, high),
-        Upper::Missing => text(rt, b"-"),
+        Some(high) => number(rt, high),
+        None => text(rt, b"-"),
     }
 }
 
