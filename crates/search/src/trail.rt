@@ -10,6 +10,7 @@ use records::tables::{Tables, edge_from};
 use settle::labels::{ARC, NO_LABEL, STATE};
 
 // The arc of state s's label, 0 where it has none.
+#[tactic(auto, using(crate::specs::Trail::arc_cases))]
 fn arc_at(work: &[u64], states: usize, s: usize) -> u64
     requires { (s < states) × (4 * states ≤ length work.now) }
     ensures { result ≡ arc_of (labels states work.now s) }
@@ -22,6 +23,7 @@ fn arc_at(work: &[u64], states: usize, s: usize) -> u64
 }
 
 // The state from which an arc leads to state s: the turn (arc 0) from its own junction, arc 1 + e from the start of edge e.
+#[tactic(auto, using(crate::specs::Trail::back_cases))]
 fn came_from(v: &[u8], t: Tables, n: usize, s: usize, arc: u64) -> usize
     requires laid { Laid v.now t }
     requires sound { Sound (volume_of v.now) }

@@ -42,6 +42,9 @@ pub place_descending : (n s : ℕ) → n ≤ s → place_of n s ≡ s - n
 unfolding place_of
 place_descending n s h = choose_no s (s - n) (le-ltb s n h)
 
+-- both
+pub ruleset place_cases = (place_climbing, place_descending)
+
 -- it is a junction
 pub place_below : (n s : ℕ) → s < n + n → place_of n s < n
 place_below n s h = go (dec_lt s n)
@@ -170,6 +173,9 @@ module _ (vol : Volume) (d : ℕ) where
             le-ltb s vol.junctions h,
             ne_eqb (vol.junctions + vol.edge_from e) s (λ q. ne (let z : vol.edge_from e ≡ s - vol.junctions = omega arith in z ∙ sym (place_descending vol.junctions s h))),
           )
+
+-- where an edge leads, in every case
+pub ruleset lead_cases = (lead_up, lead_not_up, lead_down, lead_not_down, lead_unmarked)
 
 -- One arc
 

@@ -67,6 +67,9 @@ module _ (p f : Waiting) where
   unfolding sooner_of
   sooner_later h ne = choose_no _ _ (le-ltb f.arrival p.arrival h) ∙ choose_no _ _ (ne_eqb f.arrival p.arrival ne)
 
+-- all of these
+pub ruleset sooner_cases = (sooner_first, sooner_less, sooner_lower, sooner_higher, sooner_later)
+
 -- The scan
 
 -- state s with arrival a is before t, or is t: its arrival is less, or as early and its number no higher

@@ -60,6 +60,9 @@ module _ (S : ℕ) (w : List ℕ) (d : ℕ) (h : d < S) where
           go (suc zero) n = absurd (n refl)
           go (suc (suc m)) n = refl
 
+-- what is seen where something waits
+pub ruleset see_cases = (see_destination, see_later, see_next)
+
 -- The upper end
 
 -- a state that waits gives its arrival

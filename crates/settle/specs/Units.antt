@@ -19,8 +19,9 @@ use Rattle.volume.specs.Sound.{Sound}
 use Rattle.travel.specs.Network.{network_of}
 use Rattle.travel.specs.Halves.{edge_short}
 use Rattle.settle.specs.Work.{label_at, labels, labels_in, cleared, cleared_zero, Holds, holds_then, holds_cleared}
-use Rattle.settle.specs.Chain.{Chained, chained_none}
+use Rattle.settle.specs.Chain.{WaitsAt, Chained, chained_none}
 use Rattle.settle.specs.Offered.{offer_to, head_to, holds_offer, rechained_offer}
+use Rattle.settle.specs.Scan.{waits_at}
 use Rattle.settle.specs.Arcs.{web_of, states_of}
 use Rattle.settle.specs.Outcome.{upper_of, Ends, UpperFits, OutcomeFits, Ran}
 use Rattle.settle.specs.declared.Outcome.{Outcome}
@@ -190,6 +191,10 @@ module _ (vol : Volume) (S : Sound vol) (u d x b : ℕ) (w₀ : List ℕ) (n : �
       -- which fits
       pub next_fits : a < 2 ^ 62
       next_fits = waits_fits s a next_waits
+
+      -- so it can be settled
+      pub next_can : (s < states_of vol) × WaitsAt w s × (a < 2 ^ 62)
+      next_can = (next_inside, (waits_at (states_of vol) w s a next_inside next_waits).0, next_fits)
 
       -- one unit more
       pub onward_unit : (v : List ℕ) → n < b → Holds (states_of vol) w v (settle (web_of vol d) s a (labels (states_of vol) w))

@@ -13,7 +13,7 @@ use Rattle.records.specs.Index.{next_from, next_low, next_skips}
 use Rattle.travel.specs.Network.{network_of}
 use Rattle.settle.specs.Work.{label_of, labels, labels_in, store, Holds, holds_same, holds_then, holds_as, holds_store}
 use Rattle.settle.specs.Chain.{WaitsAt}
-use Rattle.settle.specs.Offered.{offer_to}
+use Rattle.settle.specs.Offered.{offer_to, rechained_offer}
 use Rattle.settle.specs.Marked.{MarksBelow}
 use Rattle.settle.specs.Arcs.{web_of, states_of, place_of, lead_of, leaves_away, arc_skipped, arc_offered}
 
@@ -63,6 +63,9 @@ module _ (marks : List Bool) (n s a f : ℕ) (w : List ℕ) where
   pub turn_none : n ≤ s → w ≡ turned marks n s a f w
   unfolding turned
   turn_none h = sym (choose_no _ _ (le-ltb s n h))
+
+-- all of these, and that the chain stands after an offer
+pub ruleset turn_cases = (turn_made, turn_unmarked, turn_none, rechained_offer)
 
 module _ (vol : Volume) (d s a : ℕ) where
   -- the turn is arc 0: a marked climbing state offers it

@@ -15,6 +15,7 @@ use records::tables::{Counts, Tables, edge_to};
 use travel::edge::edge_duration;
 
 // The junction at which state s stands.
+#[tactic(auto, using(crate::specs::Arcs::place_cases))]
 fn place(n: usize, s: usize) -> usize
     ensures { result ≡ place_of n s }
 {
@@ -25,6 +26,7 @@ fn place(n: usize, s: usize) -> usize
 }
 
 // The state to which edge e leads state s, if s offers it: a climbing state to higher rank, a descending one to a lower marked junction.
+#[tactic(auto, using(crate::specs::Arcs::lead_cases))]
 fn lead_of(v: &[u8], t: Tables, n: usize, marks: &[bool], s: usize, e: usize) -> Option<usize>
     requires ready { Ready v.now t n marks.now s }
     requires e_bound { (e < (volume_of v.now).edges) × ((volume_of v.now).edge_from e ≡ place_of n s) }
@@ -79,6 +81,7 @@ fn offer_edge(
 }
 
 // Offers the turn from state s, which is settled at `arrival`: a climbing state its own junction, descending, if marked.
+#[tactic(auto, using(crate::specs::Walk::turn_cases))]
 fn offer_turn(
     n: usize,
     marks: &[bool],

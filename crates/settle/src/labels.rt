@@ -36,6 +36,7 @@ pub fn put_label(work: &mut [u64], s: usize, kind: u64, arrival: u64, arc: u64)
 
 // Offers an arrival by an arc to state s: it counts for a state that is not settled, if none or a strictly later arrival waits there. A
 // state that begins to wait goes in front of the chain. Returns the first of the chain.
+#[tactic(auto, using(crate::specs::Offered::offer_cases))]
 pub fn offer_to(work: &mut [u64], head: usize, s: usize, arrival: u64, arc: u64) -> usize
     requires { 4 * s + 4 ≤ length work.old }
     ensures work_after { work.new ≡ offer_to work.old head s arrival arc }

@@ -26,6 +26,7 @@ pub enum View {
 }
 
 // The pick so far, with one waiting state more beside it, which is taken where its arrival is less, or as early and its number lower.
+#[tactic(auto, using(crate::specs::Scan::sooner_cases))]
 fn sooner(best: Option<Waiting>, found: Waiting) -> Option<Waiting>
     ensures { result ≡ sooner_of best found }
 {
@@ -44,6 +45,7 @@ fn sooner(best: Option<Waiting>, found: Waiting) -> Option<Waiting>
 }
 
 // The waiting state with the least arrival, the lowest number among equals, from the chain of those that wait.
+#[tactic(auto, using(crate::specs::Scan::scan_first, crate::specs::Scan::scan_more))]
 pub fn least_waiting(work: &[u64], states: usize, head: usize) -> Option<Waiting>
     requires { (4 * states ≤ length work.now) × Chained states work.now head }
     ensures result_value { pick_of result ≡ least states (labels states work.now) }
@@ -67,6 +69,7 @@ pub fn least_waiting(work: &[u64], states: usize, head: usize) -> Option<Waiting
 }
 
 // What is seen, where `home` is the descending destination.
+#[tactic(auto, using(crate::specs::Seen::see_cases))]
 pub fn see(work: &[u64], states: usize, head: usize, home: usize) -> View
     requires { (4 * states ≤ length work.now) × (home < states) × Chained states work.now head }
     ensures result_value { view_of result ≡ view_from (labels states work.now home) (least states (labels states work.now)) }
