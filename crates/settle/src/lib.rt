@@ -26,7 +26,8 @@ pub mod labels;
 pub mod marks;
 pub mod seen;
 
-// What is asked: the earliest arrival from one junction to another at a departure, in at most so many units.
+// A question: the earliest arrival from one junction to another at a departure, in at most so many units. What may be asked of a volume is
+// the fact `Question` of specs/Units.
 #[derive(Clone, Copy)]
 pub struct Query {
     pub from: usize,
@@ -76,6 +77,7 @@ fn units(
     clear(work, STATE * states);
     let mut head = offer_to(work, states, query.from, query.departure, 0);
     let mut used: u64 = 0;
+    // No `for` over the budget: it would need an answer after its end, which is never reached.
     loop {
         let view = see(work, states, head, home);
         match view {
@@ -119,7 +121,7 @@ fn run_with<const INDEX: usize, const DIGEST: usize>(
     units(v, t, c, &first, &next, &digest, &marks, query, work)
 }
 
-// Runs the rule on a query: what it ends with, and the labels in the first 8 N work numbers, whatever they held before. Few
+// Runs the rule on a question: what it ends with, and the labels in the first 8 N work numbers, whatever they held before. Few
 // roads and edges get short lists for the index and the digest.
 pub fn run(v: &[u8], t: Tables, c: Counts, query: Query, work: &mut [u64]) -> Outcome
     requires laid { Laid v.now t }

@@ -7,7 +7,7 @@ use Rattle.records.specs.Format.{volume_of}
 use Rattle.theory.specs.Unfold.{path_along}
 use Rattle.travel.specs.Network.{roads_of}
 use Rattle.travel.specs.Written.{with_roads, room_after, two_written}
-use Rattle.search.specs.Path.{path_of, drive_none, roads_more, roads_within, drive_more}
+use Rattle.search.specs.Path.{path_of, drive_none, roads_more, roads_within, drive_more, drive_fits}
 use Rattle.search.proofs.path.write_path.Goals as goal
 
 pub loop-e-init : goal.loop-e-init
@@ -24,8 +24,7 @@ unfold_edge-u-requires-clause-x_in_bounds c =
 
 pub overflow_add-y : goal.overflow_add-y
 overflow_add-y c =
-    let D = drive_more c.requires.sound c.requires.chain c.loop-e.invariant.0 (omega arith) (get_or c.args.trail.now c.loop-e.e-index 0) refl _ c.unfold_edge-u.ensures.unfolds in
-    omega (arith, D.early, c.requires.chain.few, c.requires.chain.early)
+    omega (arith, (drive_fits c.requires.sound c.requires.chain c.loop-e.invariant.0 (omega arith) _ refl _ c.unfold_edge-u.ensures.unfolds).0)
 
 pub loop-e-preserved : goal.loop-e-preserved
 loop-e-preserved c =
