@@ -33,13 +33,8 @@ fn sooner(best: Option<Waiting>, found: Waiting) -> Option<Waiting>
     let Some(least) = best else {
         return Some(found);
     };
-    if found.arrival < least.arrival {
+    if (found.arrival, found.state) < (least.arrival, least.state) {
         return Some(found);
-    }
-    if found.arrival == least.arrival {
-        if found.state < least.state {
-            return Some(found);
-        }
     }
     best
 }
