@@ -1,7 +1,7 @@
 -- Demand 3 as a customer reads it: on a volume for which the check says full. `verdict_of` is what `full::check` answers, and `Searched` is
 -- the contract of `search::search`. What holds on every volume that opens, full or not, stands in the search's own Promises: the path, more
 -- budget, and that 2N - 1 units finish.
-use Rattle.std.specs.Prelude.{ℕ, ◌≤◌, ◌≡◌, None, List, length}
+use Rattle.std.specs.Prelude.{ℕ, ◌≤◌, ◌≡◌, None, List, length, Option}
 use Rattle.std.proofs.Common.{ap}
 use Rattle.theory.specs.Ways.{Way, LeastArrival}
 use Rattle.theory.specs.Network.{Roads, FullDay}
@@ -9,7 +9,6 @@ use Rattle.theory.specs.Windows.{IsAt, Tops, NotBelow}
 use Rattle.records.specs.Format.{volume_of}
 use Rattle.settle.specs.Units.{Question}
 use Rattle.settle.specs.Outcome.{upper_of}
-use Rattle.settle.specs.declared.Upper.{Upper}
 use Rattle.full.specs.Fault.{verdict_of}
 use Rattle.full.specs.Paper.{paper}
 use Rattle.full.specs.Means.{Opens}
@@ -46,7 +45,7 @@ module _ (v : List ℕ) (passes : verdict_of v ≡ Checked None) where
 
     -- an unfinished search gives a window that holds the least arrival: no walk arrives before its lower end, and some walk arrives at its
     -- upper end, where it has one
-    pub open_holds : {l n : ℕ} {h : Upper} → Searched v from to x b work path (Open l h n) w p
+    pub open_holds : {l n : ℕ} {h : Option ℕ} → Searched v from to x b work path (Open l h n) w p
         → ((y : ℕ) → Way (Roads (network v)) from x to y → l ≤ y) × ((y : ℕ) → IsAt (upper_of h) y → Way (Roads (network v)) from x to y)
     open_holds = Search.open_holds full
 

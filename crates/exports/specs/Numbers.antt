@@ -10,8 +10,6 @@ use Rattle.full.specs.declared.Fault.TheVariants.{RoadMissing, RoadLate, PairMis
 use Rattle.full.specs.declared.Verdict.{Verdict}
 use Rattle.full.specs.declared.Verdict.TheVariants.{Checked}
 use Rattle.full.specs.Paper.{Paper, found, refusal, paper as onPaper}
-use Rattle.settle.specs.declared.Upper.{Upper}
-use Rattle.settle.specs.declared.Upper.TheVariants.{At, Missing}
 use Rattle.search.specs.declared.Answer.{Answer}
 use Rattle.search.specs.declared.Answer.TheVariants.{Closed, NoWay, Open, Refused as NotSearched}
 use Rattle.exports.specs.Told.{Told}
@@ -58,9 +56,9 @@ checked_number (Some (PairMissing l r)) = refl
 checked_number (Some (PairLate l r x)) = refl
 
 -- a window: lower end, 1 or 0 for whether there is an upper end, the upper end or 0, used
-abbrev pub window_told : ℕ → Upper → ℕ → Told
-window_told lower (At most) used = record { number = 0; values = 2 ∷ lower ∷ 1 ∷ most ∷ used ∷ [] }
-window_told lower Missing used = record { number = 0; values = 2 ∷ lower ∷ 0 ∷ 0 ∷ used ∷ [] }
+abbrev pub window_told : ℕ → Option ℕ → ℕ → Told
+window_told lower (Some most) used = record { number = 0; values = 2 ∷ lower ∷ 1 ∷ most ∷ used ∷ [] }
+window_told lower None used = record { number = 0; values = 2 ∷ lower ∷ 0 ∷ 0 ∷ used ∷ [] }
 
 -- the search: kind 0, arrival, used, roads; kind 1, used; kind 2 and the window
 abbrev pub answer_told : Answer → Told

@@ -6,7 +6,6 @@ ghost use Rattle.exports.specs.Numbers.{answer_told};
 
 use crate::tell::{tell, tell_five, tell_four, tell_two};
 use search::Answer;
-use settle::Upper;
 
 // Writes a search's answer: 0 and its kind and values, or the refusal's number and its place.
 fn tell_answer(answer: Answer, out: &mut [u64]) -> u32
@@ -23,11 +22,11 @@ fn tell_answer(answer: Answer, out: &mut [u64]) -> u32
             0
         }
         Answer::Open(lower, upper, used) => match upper {
-            Upper::At(most) => {
+            Some(most) => {
                 tell_five(out, 2, lower, 1, most, used);
                 0
             }
-            Upper::Missing => {
+            None => {
                 tell_five(out, 2, lower, 0, 0, used);
                 0
             }

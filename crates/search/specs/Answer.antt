@@ -1,7 +1,7 @@
 -- What a search answers and what it leaves in the lent lists: document 01, "What comes back". Refusals stand in the document's order;
 -- between them stands the settling rule's answer, with the trail unfolded to roads. `Searched` is the contract of `search`. What it
 -- promises is in Promises.
-use Rattle.std.specs.Prelude.{ℕ, ◌*◌, ◌^◌, ◌≡◌, Bool, true, List, [], ◌∷◌, ◌++◌, ltb, leb, length}
+use Rattle.std.specs.Prelude.{ℕ, ◌*◌, ◌^◌, ◌≡◌, Bool, true, Option, None, Some, List, [], ◌∷◌, ◌++◌, ltb, leb, length}
 use Rattle.block.specs.Choose.{choose, both}
 use Rattle.theory.specs.Settling as Rule
 use Rattle.theory.specs.Settling.{UpperEnd, none, at_most, no_way, closed, open_from, answer}
@@ -11,8 +11,6 @@ use Rattle.volume.specs.declared.Opening as Opening
 use Rattle.travel.specs.Network.{network_of}
 use Rattle.travel.specs.Written.{with_roads}
 use Rattle.settle.specs.Work.{cleared}
-use Rattle.settle.specs.declared.Upper.{Upper}
-use Rattle.settle.specs.declared.Upper.TheVariants.{At, Missing}
 use Rattle.search.specs.Path.{path_of}
 use Rattle.search.specs.declared.Answer.{Answer}
 use Rattle.search.specs.declared.Answer.TheVariants.{Closed, NoWay, Open, Refused}
@@ -29,9 +27,9 @@ upper_fits none = true
 upper_fits (at_most a) = fits a
 
 -- the upper end, or none
-abbrev pub upper_told : UpperEnd → Upper
-upper_told none = Missing
-upper_told (at_most a) = At a
+abbrev pub upper_told : UpperEnd → Option ℕ
+upper_told none = None
+upper_told (at_most a) = Some a
 
 -- the rule's answer as the search gives it, with room for so many roads. Closed gives arrival, units used and the number of roads; no way
 -- gives units used; open gives lower end, upper end or none, and units used. 9: closed, but more roads than room, at the roads needed;
@@ -106,9 +104,9 @@ pub record Paper : Type 0 where
   pub values : List ℕ
 
 -- the upper end, if there is one
-abbrev pub upper_value : Upper → List ℕ
-upper_value (At a) = a ∷ []
-upper_value Missing = []
+abbrev pub upper_value : Option ℕ → List ℕ
+upper_value (Some a) = a ∷ []
+upper_value None = []
 
 -- closed gives arrival, units used and the number of roads; no way units used; open lower end, upper end and units used; a refusal its place
 abbrev pub paper : Answer → Paper

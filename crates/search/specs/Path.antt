@@ -105,3 +105,7 @@ module _ {vol : Volume} (S : Sound vol) {es : List ℕ} {x i y n : ℕ} (C : Cha
     early = omega (arith, U.duration, D.early, (edge_takes vol S e y there).1, (S.edge e there).span);
     few = omega (arith, D.few, few_roads vol S e y u there U);
   }
+
+  -- and second and roads are numbers of the code
+  pub drive_fits : (u : Unfolded) → Unfolds vol e y u → (y + u.duration < 2 ^ 64) × (n + u.roads < 2 ^ 64)
+  drive_fits u U = let D = drive_more u U in (omega (arith, D.early, C.few, C.early), omega (arith, D.few, C.few))

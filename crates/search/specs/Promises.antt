@@ -1,7 +1,7 @@
 -- What the search promises, read first. `Searched` of Answer is the contract of the code, so each promise speaks of what `search` answers
 -- for the bytes v and leaves in the lists that it was lent. r is the answer, `number r` its number in the document: 0 where it is not
 -- refused. `said r` is its window in the theory's words; `network v` is the network that the bytes hold.
-use Rattle.std.specs.Prelude.{ℕ, ◌+◌, ◌*◌, ◌^◌, ◌≤◌, ◌<◌, ◌≡◌, List, length, take, drop}
+use Rattle.std.specs.Prelude.{ℕ, ◌+◌, ◌*◌, ◌^◌, ◌≤◌, ◌<◌, ◌≡◌, Option, List, length, take, drop}
 use Rattle.std.proofs.Math.Path.{refl}
 use Rattle.std.proofs.Common.{ap, sym, ◌∙◌, arith, take_at, drop_at}
 use Rattle.std.proofs.lemmas.Bool.{lt-leb}
@@ -21,7 +21,6 @@ use Rattle.travel.specs.Network.{network_of, sound_network}
 use Rattle.settle.specs.Work.{cleared}
 use Rattle.settle.specs.Units.{Question}
 use Rattle.settle.specs.Outcome.{upper_of}
-use Rattle.settle.specs.declared.Upper.{Upper}
 use Rattle.search.specs.Path.{path_of}
 use Rattle.search.specs.Answer.{path_told, ruled, answer_of, work_after, path_after, Searched, number}
 use Rattle.search.specs.Steps.{early_keeps, rule_answers}
@@ -228,7 +227,7 @@ module _ {v : List ℕ} (F : FullDay (network v)) {from to x b : ℕ} {work path
 
   -- an open window holds the least arrival, if there is one: no walk arrives before its lower end, and some walk arrives at its upper
   -- end, where it has one
-  pub open_holds : {l n : ℕ} {h : Upper} → Searched v from to x b work path (Open l h n) w p
+  pub open_holds : {l n : ℕ} {h : Option ℕ} → Searched v from to x b work path (Open l h n) w p
       → ((y : ℕ) → Way (Roads (network v)) from x to y → l ≤ y) × ((y : ℕ) → IsAt (upper_of h) y → Way (Roads (network v)) from x to y)
   unfolding network_of
   open_holds {l} {n} {h} H =

@@ -1,6 +1,6 @@
 -- What each step of the search learns on the way to its answer: from the outcome of the rule, from refusals 7 and 8, from opening. The
 -- question that the rule is asked is settle's `Question`.
-use Rattle.std.specs.Prelude.{ℕ, zero, suc, ◌+◌, ◌*◌, ◌^◌, ◌≤◌, ◌<◌, ◌≡◌, Bool, true, false, cond, List, [], ◌∷◌, ◌++◌, ltb, eqb, leb, length, drop, replicate, get_or}
+use Rattle.std.specs.Prelude.{ℕ, zero, suc, ◌+◌, ◌*◌, ◌^◌, ◌≤◌, ◌<◌, ◌≡◌, Bool, true, false, cond, Option, None, Some, List, [], ◌∷◌, ◌++◌, ltb, eqb, leb, length, drop, replicate, get_or}
 use Rattle.std.proofs.Math.Path.{refl, ap, sym}
 use Rattle.std.proofs.Common.{◌∙◌, arith, length-append, lt-ltb, le-ltb, le-leb}
 use Rattle.std.proofs.lemmas.Bool.{lt-leb}
@@ -24,8 +24,6 @@ use Rattle.travel.specs.Written.{with_roads}
 use Rattle.settle.specs.Work.{labels, cleared}
 use Rattle.settle.specs.Units.{Question}
 use Rattle.settle.specs.Outcome.{upper_of, UpperFits, Ran}
-use Rattle.settle.specs.declared.Upper.{Upper}
-use Rattle.settle.specs.declared.Upper.TheVariants.{At, Missing}
 use Rattle.settle.specs.declared.Outcome as Ending
 use Rattle.search.specs.Trail.{Walkable, trail_of}
 use Rattle.search.specs.Path.{Chain, path_of}
@@ -66,20 +64,20 @@ module _ (vol : Volume) (x : ℕ) (path : List ℕ) where
   report_no_way n = record { answers = refl; writes = refl }
 
   -- open, with ends that fit
-  report_open : (l n : ℕ) (h : Upper) → l < 2 ^ 62 → UpperFits h → Reported vol x (open_from l (upper_of h) n) path (Open l h n) path
+  report_open : (l n : ℕ) (h : Option ℕ) → l < 2 ^ 62 → UpperFits h → Reported vol x (open_from l (upper_of h) n) path (Open l h n) path
   unfolding told
   report_open l n h f g = record {
-    answers = sym (choose_yes _ _ (both_yes _ (lt-ltb l (2 ^ 64) (omega arith)) ∙ fit h g) ∙ ap (λ (h : Upper). Open l h n) (same h));
+    answers = sym (choose_yes _ _ (both_yes _ (lt-ltb l (2 ^ 64) (omega arith)) ∙ fit h g) ∙ ap (λ (h : Option ℕ). Open l h n) (same h));
     writes = refl;
   }
     where
-      same : (h : Upper) → upper_told (upper_of h) ≡ h
-      same (At a) = refl
-      same Missing = refl
+      same : (h : Option ℕ) → upper_told (upper_of h) ≡ h
+      same (Some a) = refl
+      same None = refl
 
-      fit : (h : Upper) → UpperFits h → upper_fits (upper_of h) ≡ true
-      fit (At a) f = lt-ltb a (2 ^ 64) (omega arith)
-      fit Missing f = refl
+      fit : (h : Option ℕ) → UpperFits h → upper_fits (upper_of h) ≡ true
+      fit (Some a) f = lt-ltb a (2 ^ 64) (omega arith)
+      fit None f = refl
 
 -- The trail of a closed answer is a chain of edges
 
@@ -125,7 +123,7 @@ module _ {vol : Volume} {from to x b : ℕ} {w₀ w : List ℕ} (path : List ℕ
   tells_no_way {n} R = applied R R.ends (report_no_way vol x path n)
 
   -- the budget is spent
-  pub tells_open : {l n : ℕ} {h : Upper} → Ran vol from to x b w₀ w (Ending.TheVariants.Open l h n)
+  pub tells_open : {l n : ℕ} {h : Option ℕ} → Ran vol from to x b w₀ w (Ending.TheVariants.Open l h n)
       → Applied vol from to x b w₀ path (Open l h n) w path
   tells_open {l} {n} {h} R = applied R R.ends (report_open vol x path l n h R.fits.0 R.fits.1)
 

@@ -1,7 +1,7 @@
 -- What an answer of the search tells of the settling rule's answer behind it, read backwards from `answer_of`: an answer that is not
 -- refused means that the volume is sound, the question is about its junctions, and the rule answers so. `said` is the answer in the
 -- theory's words, of which the theory's windows speak.
-use Rattle.std.specs.Prelude.{ℕ, ◌*◌, ◌≤◌, ◌<◌, ◌≡◌, refl, Bool, List, [], ltb, leb, length}
+use Rattle.std.specs.Prelude.{ℕ, ◌*◌, ◌≤◌, ◌<◌, ◌≡◌, refl, Bool, Option, None, Some, List, [], ltb, leb, length}
 use Rattle.std.proofs.Common.{ap, sym, ◌∙◌, arith, ltb-true, leb-true, leb-false}
 use Rattle.std.proofs.Math.Bool.{true, false}
 use Rattle.block.specs.Choose.{choose, both}
@@ -15,8 +15,6 @@ use Rattle.volume.specs.Opened.{OpenVolume, opened}
 use Rattle.records.specs.declared.tables.Counts.{Counts}
 use Rattle.volume.specs.declared.Opening as Opening
 use Rattle.settle.specs.Outcome.{upper_of}
-use Rattle.settle.specs.declared.Upper.{Upper}
-use Rattle.settle.specs.declared.Upper.TheVariants.{At, Missing}
 use Rattle.search.specs.Path.{path_of}
 use Rattle.search.specs.Answer.{fits, upper_fits, upper_told, told, path_told, ruled, answer_in, after_opening, answer_of, number}
 use Rattle.search.specs.Steps.{EarlyRefusal, opening_numbered}
@@ -118,11 +116,11 @@ plainly vol x (open_from l h n) = Open l (upper_told h) n
 pub tells_plainly : (vol : Volume) (x room : ℕ) (q : Rule.Answer) (r : Answer) → Tells vol x room q r → number r ≡ 0 → r ≡ plainly vol x q
 tells_plainly vol x room q (Closed a n k) (es, e, c, f) z = ap (Closed a n) c ∙ ap (plainly vol x) (sym e)
 tells_plainly vol x room q (NoWay n) e z = ap (plainly vol x) (sym e)
-tells_plainly vol x room q (Open l h n) e z = ap (λ (h : Upper). Open l h n) (same h) ∙ ap (plainly vol x) (sym e)
+tells_plainly vol x room q (Open l h n) e z = ap (λ (h : Option ℕ). Open l h n) (same h) ∙ ap (plainly vol x) (sym e)
   where
-    same : (h : Upper) → h ≡ upper_told (upper_of h)
-    same (At a) = refl
-    same Missing = refl
+    same : (h : Option ℕ) → h ≡ upper_told (upper_of h)
+    same (Some a) = refl
+    same None = refl
 tells_plainly vol x room q (Refused k place) e z = absurd (omega arith)
 
 -- Windows

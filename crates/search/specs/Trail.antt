@@ -57,6 +57,9 @@ arc_some S w s h n = rw (lt-ltb s S h) (go (get_or w (4 * s) 0) n)
     go (suc zero) n = refl
     go (suc (suc k)) n = refl
 
+-- both
+pub ruleset arc_cases = (arc_none, arc_some)
+
 -- The state before, by the cases of the code
 
 module _ (vol : Volume) (n s : ℕ) (number : n ≡ vol.junctions) where
@@ -80,6 +83,9 @@ module _ (vol : Volume) (n s : ℕ) (number : n ≡ vol.junctions) where
     pub descended : n ≤ s → n + u ≡ came_from_in vol s k
     unfolding network_of
     descended h = rw (is, le-ltb s vol.junctions (omega arith)) (ap₂ ◌+◌ number start)
+
+-- all of these
+pub ruleset back_cases = (turned, turned_low, climbed, descended)
 
 -- it is a state
 pub came_in : (vol : Volume) → Sound vol → (s k : ℕ) → s < vol.junctions + vol.junctions → k ≤ vol.edges

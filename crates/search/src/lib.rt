@@ -16,18 +16,18 @@ ghost use Rattle.search.specs.Steps.{closed_by, Reported, Applied};
 use crate::path::{count_path, write_path};
 use crate::trail::walk_back;
 use records::tables::{Counts, Tables, tables_of};
-use settle::{Outcome, Upper, clear, run};
+use settle::{Outcome, Query, clear, run};
 use volume::{Opening, open};
 
 pub mod path;
 pub mod trail;
 
-// Closed: arrival, units used, number of roads. No way: units used. Open: lower end, upper end, units used. Refused: number, place.
+// Closed: arrival, units used, number of roads. No way: units used. Open: lower end, upper end or none, units used. Refused: number, place.
 #[derive(Clone, Copy)]
 pub enum Answer {
     Closed(u64, u64, usize),
     NoWay(u64),
-    Open(u64, Upper, u64),
+    Open(u64, Option<u64>, u64),
     Refused(u32, u64),
 }
 
@@ -36,9 +36,7 @@ fn close(
     v: &[u8],
     t: Tables,
     n: usize,
-    from: usize,
-    to: usize,
-    x: u64,
+    query: Query,
     arrival: u64,
     used: usize,
     work: &[u64],
@@ -46,82 +44,53 @@ fn close(
 ) -> Answer
     requires laid { Laid v.now t }
     requires sound { Sound (volume_of v.now) }
-    requires walkable { Walkable (volume_of v.now) n to work.now }
-    requires used_bound { (used ≤ 2048) × Chain (volume_of v.now) (trail_of (volume_of v.now) from to used work.now) x }
-    ensures { Reported (volume_of v.now) x (closed_by (volume_of v.now) from to arrival used work.now) path.old result path.new }
+    requires walkable { Walkable (volume_of v.now) n query.to work.now }
+    requires used_bound { (used ≤ 2048) × Chain (volume_of v.now) (trail_of (volume_of v.now) query.from query.to used work.now) query.departure }
+    ensures { Reported (volume_of v.now) query.departure (closed_by (volume_of v.now) query.from query.to arrival used work.now) path.old result path.new }
 {
     let mut trail = [0u16; 2048];
-    let at = walk_back(v, t, n, from, to, used, work, &mut trail);
-    let roads = count_path(v, t, &trail[at..], x);
+    let at = walk_back(v, t, n, query.from, query.to, used, work, &mut trail);
+    let roads = count_path(v, t, &trail[at..], query.departure);
     if path.len() < roads {
         return Answer::Refused(9, roads as u64);
     }
-    write_path(v, t, &trail[at..], x, path);
+    write_path(v, t, &trail[at..], query.departure, path);
     Answer::Closed(arrival, used as u64, roads)
 }
 
 // The settling rule's answer, with the path written where it closes. The work area is left with the rule's labels.
-fn apply_rule(
-    v: &[u8],
-    c: Counts,
-    from: usize,
-    to: usize,
-    x: u64,
-    budget: u64,
-    work: &mut [u64],
-    path: &mut [u32],
-) -> Answer
+fn apply_rule(v: &[u8], c: Counts, query: Query, work: &mut [u64], path: &mut [u32]) -> Answer
     requires open_volume { OpenVolume v.now c }
-    requires question { Question (volume_of v.now) from to x budget work.old }
-    ensures { Applied (volume_of v.now) from to x budget work.old path.old result work.new path.new }
+    requires question { Question (volume_of v.now) query.from query.to query.departure query.budget work.old }
+    ensures { Applied (volume_of v.now) query.from query.to query.departure query.budget work.old path.old result work.new path.new }
 {
     let n = c.junctions;
     let t = tables_of(c);
-    let outcome = run(v, t, c, from, to, x, budget, work);
+    let outcome = run(v, t, c, query, work);
     match outcome {
         Outcome::NoWay(used) => Answer::NoWay(used),
         Outcome::Open(lower, upper, used) => Answer::Open(lower, upper, used),
-        Outcome::Closed(arrival, used) => close(
-            v,
-            t,
-            n,
-            from,
-            to,
-            x,
-            arrival,
-            used as usize,
-            work,
-            path,
-        ),
+        Outcome::Closed(arrival, used) => close(v, t, n, query, arrival, used as usize, work, path),
     }
 }
 
 // The search of a volume that opens: refusals 7 and 8, then the rule's answer, and the work area cleared.
-fn search_open(
-    v: &[u8],
-    c: Counts,
-    from: usize,
-    to: usize,
-    x: u64,
-    budget: u64,
-    work: &mut [u64],
-    path: &mut [u32],
-) -> Answer
+fn search_open(v: &[u8], c: Counts, query: Query, work: &mut [u64], path: &mut [u32]) -> Answer
     requires v_value { open_of v.now ≡ Opening.Opened c }
-    requires x_bound { (x < 2 ^ 32) × (budget < 2 ^ 32) }
-    ensures { Searched v.now from to x budget work.old path.old result work.new path.new }
+    requires x_bound { (query.departure < 2 ^ 32) × (query.budget < 2 ^ 32) }
+    ensures { Searched v.now query.from query.to query.departure query.budget work.old path.old result work.new path.new }
 {
     let n = c.junctions;
-    if n <= from {
+    if n <= query.from {
         return Answer::Refused(7, 0);
     }
-    if n <= to {
+    if n <= query.to {
         return Answer::Refused(7, 1);
     }
     if work.len() < 8 * n {
         return Answer::Refused(8, 0);
     }
-    let r = apply_rule(v, c, from, to, x, budget, work, path);
+    let r = apply_rule(v, c, query, work, path);
     clear(work, 8 * n);
     r
 }
@@ -138,18 +107,15 @@ pub fn search(
 ) -> Answer
     ensures { Searched v.now from to departure budget work.old path.old result work.new path.new }
 {
+    let query = Query {
+        from: from as usize,
+        to: to as usize,
+        departure: departure as u64,
+        budget: budget as u64,
+    };
     let opening = open(v);
     match opening {
         Opening::Refused(number, place) => Answer::Refused(number, place),
-        Opening::Opened(c) => search_open(
-            v,
-            c,
-            from as usize,
-            to as usize,
-            departure as u64,
-            budget as u64,
-            work,
-            path,
-        ),
+        Opening::Opened(c) => search_open(v, c, query, work, path),
     }
 }

@@ -18,12 +18,10 @@ pub fn count_path(v: &[u8], t: Tables, trail: &[u16], x: u64) -> usize
 {
     let mut y = x;
     let mut n: usize = 0;
-    let mut i: usize = 0;
-    while i < trail.len() {
-        let u = count_roads(v, t, trail[i] as usize, y);
+    for e in trail {
+        let u = count_roads(v, t, *e as usize, y);
         n += u.roads;
         y += u.duration;
-        i += 1;
     }
     n
 }
@@ -38,11 +36,9 @@ pub fn write_path(v: &[u8], t: Tables, trail: &[u16], x: u64, path: &mut [u32])
 {
     let mut y = x;
     let mut n: usize = 0;
-    let mut i: usize = 0;
-    while i < trail.len() {
-        let u = unfold_edge(v, t, trail[i] as usize, y, &mut path[n..]);
+    for e in trail {
+        let u = unfold_edge(v, t, *e as usize, y, &mut path[n..]);
         n += u.roads;
         y += u.duration;
-        i += 1;
     }
 }

@@ -7,24 +7,23 @@ ghost use Rattle.settle.specs.Work.{labels};
 ghost use Rattle.search.specs.Trail.{Walkable, came_from_in, Trailed};
 
 use records::tables::{Tables, edge_from};
-
-// The numbers of a state in the work area, and where among them its arc stands.
-const STATE_NUMBERS: usize = 4;
-
-const ARC: usize = 2;
+use settle::labels::{ARC, NO_LABEL, STATE};
 
 // The arc of state s's label, 0 where it has none.
+#[tactic(auto, using(crate::specs::Trail::arc_cases))]
 fn arc_at(work: &[u64], states: usize, s: usize) -> u64
     requires { (s < states) × (4 * states ≤ length work.now) }
     ensures { result ≡ arc_of (labels states work.now s) }
 {
-    if work[STATE_NUMBERS * s] == 0 {
+    let at = STATE * s;
+    if work[at] == NO_LABEL {
         return 0;
     }
-    work[STATE_NUMBERS * s + ARC]
+    work[at + ARC]
 }
 
 // The state from which an arc leads to state s: the turn (arc 0) from its own junction, arc 1 + e from the start of edge e.
+#[tactic(auto, using(crate::specs::Trail::back_cases))]
 fn came_from(v: &[u8], t: Tables, n: usize, s: usize, arc: u64) -> usize
     requires laid { Laid v.now t }
     requires sound { Sound (volume_of v.now) }
@@ -63,12 +62,10 @@ pub fn walk_back(
 {
     let mut at = trail.len();
     let mut s = n + to;
-    let mut left = used;
-    while 0 < left {
+    for _walked in 0..used {
         if s == from {
             return at;
         }
-        left -= 1;
         let arc = arc_at(work, n + n, s);
         s = came_from(v, t, n, s, arc);
         if arc != 0 {

@@ -1,6 +1,6 @@
 -- The arcs by which a settled state makes its offers, as the code walks them: the turn, then the state's own edges in rising order
 -- through the index. Arcs that are passed over change nothing, so after the walk all arcs are offered.
-use Rattle.std.specs.Prelude.{ℕ, zero, suc, ◌+◌, ◌-◌, ◌*◌, ◌^◌, ◌≤◌, ◌<◌, Bool, true, ◌&&◌, List, ◌≢◌, ◌≡◌, refl, ltb, length, get_or}
+use Rattle.std.specs.Prelude.{ℕ, zero, suc, ◌+◌, ◌-◌, ◌*◌, ◌^◌, ◌≤◌, ◌<◌, Bool, true, ◌&&◌, List, ◌≢◌, ◌≡◌, refl, Option, None, Some, ltb, length, get_or}
 use Rattle.std.proofs.Math.Bool.{false}
 use Rattle.std.proofs.Math.Path.{sym}
 use Rattle.std.proofs.Common.{◌∙◌, ap, ap₂}
@@ -19,8 +19,6 @@ use Rattle.travel.specs.Halves.{edge_short}
 use Rattle.settle.specs.Work.{label_of, label_at, labels, labels_in, Holds, holds_same, holds_as}
 use Rattle.settle.specs.Offered.{offer_to, put_again, holds_offer}
 use Rattle.settle.specs.Marked.{MarksBelow}
-use Rattle.settle.specs.declared.arcs.Lead.{Lead}
-use Rattle.settle.specs.declared.arcs.Lead.TheVariants.{To, Nowhere}
 
 -- the rule's states and arcs on a volume, where d is the destination
 abbrev pub web_of : Volume → ℕ → Web
@@ -44,6 +42,9 @@ pub place_descending : (n s : ℕ) → n ≤ s → place_of n s ≡ s - n
 unfolding place_of
 place_descending n s h = choose_no s (s - n) (le-ltb s n h)
 
+-- both
+pub ruleset place_cases = (place_climbing, place_descending)
+
 -- it is a junction
 pub place_below : (n s : ℕ) → s < n + n → place_of n s < n
 place_below n s h = go (dec_lt s n)
@@ -53,7 +54,7 @@ place_below n s h = go (dec_lt s n)
     go (no g) = rw (place_descending n s (omega arith)) (omega arith)
 
 -- what a state's offers need: the volume, its number of junctions, room for the marks, and that s is a state
-pub record Ready (v : List ℕ) (t : Tables) (n : ℕ) (marks : List ℕ) (s : ℕ) : Type 0 where
+pub record Ready (v : List ℕ) (t : Tables) (n : ℕ) (marks : List Bool) (s : ℕ) : Type 0 where
   pub laid : Laid v t
   pub sound : Sound (volume_of v)
   pub count : n ≡ (volume_of v).junctions
@@ -61,37 +62,37 @@ pub record Ready (v : List ℕ) (t : Tables) (n : ℕ) (marks : List ℕ) (s : �
   pub state : s < n + n
 
 -- for every destination that has these marks, the work area w₀ became w as `f` of the rule says
-abbrev pub Does : Volume → List ℕ → List ℕ → List ℕ → (Web → Table → Table) → Type 0
+abbrev pub Does : Volume → List Bool → List ℕ → List ℕ → (Web → Table → Table) → Type 0
 Does vol marks w₀ w f =
     (d : ℕ) → MarksBelow vol d vol.junctions marks → Holds (states_of vol) w₀ w (f (web_of vol d) (labels (states_of vol) w₀))
 
 -- Where an edge leads
 
 -- the state to which state s offers arc k, if it does
-abbrev pub lead_of : Web → ℕ → ℕ → Lead
-lead_of W s k = choose (W.leaves s k) (To (W.to s k)) Nowhere
+abbrev pub lead_of : Web → ℕ → ℕ → Option ℕ
+lead_of W s k = choose (W.leaves s k) (Some (W.to s k)) None
 
 -- a lead is to one of S states
-abbrev pub LeadsBelow : ℕ → Lead → Type 0
-LeadsBelow S (To w) = w < S
-LeadsBelow S Nowhere = Unit {0}
+abbrev pub LeadsBelow : ℕ → Option ℕ → Type 0
+LeadsBelow S (Some w) = w < S
+LeadsBelow S None = Unit {0}
 
 -- so the state that it names is
-pub lead_below : (S w : ℕ) (r : Lead) → r ≡ To w → LeadsBelow S r → w < S
+pub lead_below : (S w : ℕ) (r : Option ℕ) → r ≡ Some w → LeadsBelow S r → w < S
 lead_below S w r e h = rw e at h
 
 -- a lead to w: the arc is offered, and leads there
-pub leads_on : (W : Web) (s k w : ℕ) → To w ≡ lead_of W s k → (W.leaves s k ≡ true) × (W.to s k ≡ w)
+pub leads_on : (W : Web) (s k w : ℕ) → Some w ≡ lead_of W s k → (W.leaves s k ≡ true) × (W.to s k ≡ w)
 leads_on W s k w e =
-    let f = choose_first (W.leaves s k) (To (W.to s k)) Nowhere (To w) (sym e) (λ q. let z : ◌≡◌ {A = ℕ} 0 1 = cc in omega arith) in
+    let f = choose_first (W.leaves s k) (Some (W.to s k)) None (Some w) (sym e) (λ q. let z : ◌≡◌ {A = ℕ} 0 1 = cc in omega arith) in
     (f.0, let q = f.1 in cc)
 
 -- no lead: the arc is not offered
-pub leads_nowhere : (W : Web) (s k : ℕ) → Nowhere ≡ lead_of W s k → W.leaves s k ≡ false
+pub leads_nowhere : (W : Web) (s k : ℕ) → None ≡ lead_of W s k → W.leaves s k ≡ false
 leads_nowhere W s k e = go (W.leaves s k) refl
   where
     go : (b : Bool) → W.leaves s k ≡ b → W.leaves s k ≡ false
-    go true q = let f = e ∙ choose_yes (To (W.to s k)) Nowhere q in let z : ◌≡◌ {A = ℕ} 0 1 = cc in absurd (omega arith)
+    go true q = let f = e ∙ choose_yes (Some (W.to s k)) None q in let z : ◌≡◌ {A = ℕ} 0 1 = cc in absurd (omega arith)
     go false q = q
 
 module _ (vol : Volume) (d : ℕ) where
@@ -126,32 +127,32 @@ module _ (vol : Volume) (d : ℕ) where
     down h = begins ∙ place_descending n s h ∙ ap (λ (m : ℕ). s - m) count
 
     -- climbing, to higher rank
-    pub lead_up : s < n → s < w → To w ≡ lead_of (web_of vol d) s (suc e)
+    pub lead_up : s < n → s < w → Some w ≡ lead_of (web_of vol d) s (suc e)
     lead_up h l =
-        ap To (ends ∙ sym (leads_up s e (omega arith)))
+        ap Some (ends ∙ sym (leads_up s e (omega arith)))
         ∙ sym (choose_yes _ _ (leaves_up s e (omega arith) (up h) ∙ lt-ltb s (vol.edge_to e) (omega arith)))
 
     -- climbing, to lower rank
-    pub lead_not_up : s < n → w ≤ s → Nowhere ≡ lead_of (web_of vol d) s (suc e)
+    pub lead_not_up : s < n → w ≤ s → None ≡ lead_of (web_of vol d) s (suc e)
     lead_not_up h l = sym (choose_no _ _ (leaves_up s e (omega arith) (up h) ∙ le-ltb s (vol.edge_to e) (omega arith)))
 
     -- descending, to a lower marked junction
-    pub lead_down : n ≤ s → w < s - n → marked (network_of vol) d w ≡ true → To (n + w) ≡ lead_of (web_of vol d) s (suc e)
+    pub lead_down : n ≤ s → w < s - n → marked (network_of vol) d w ≡ true → Some (n + w) ≡ lead_of (web_of vol d) s (suc e)
     lead_down h l m =
         let f = down h in
-        ap To (ap₂ ◌+◌ count ends ∙ sym (leads_down s e (omega arith)))
+        ap Some (ap₂ ◌+◌ count ends ∙ sym (leads_down s e (omega arith)))
         ∙ sym (choose_yes _ _
         (leaves_down s e (omega arith) f
         ∙ rw (lt-ltb (vol.edge_to e) (vol.edge_from e) (omega arith)) (sym (ap (marked (network_of vol) d) ends) ∙ m)))
 
     -- descending, to higher rank
-    pub lead_not_down : n ≤ s → s - n ≤ w → Nowhere ≡ lead_of (web_of vol d) s (suc e)
+    pub lead_not_down : n ≤ s → s - n ≤ w → None ≡ lead_of (web_of vol d) s (suc e)
     lead_not_down h l =
         let f = down h in
         sym (choose_no _ _ (leaves_down s e (omega arith) f ∙ rw (le-ltb (vol.edge_to e) (vol.edge_from e) (omega arith))))
 
     -- descending, to a junction that is not marked
-    pub lead_unmarked : n ≤ s → w < s - n → marked (network_of vol) d w ≡ false → Nowhere ≡ lead_of (web_of vol d) s (suc e)
+    pub lead_unmarked : n ≤ s → w < s - n → marked (network_of vol) d w ≡ false → None ≡ lead_of (web_of vol d) s (suc e)
     lead_unmarked h l m =
         let f = down h in
         sym (choose_no _ _
@@ -173,6 +174,9 @@ module _ (vol : Volume) (d : ℕ) where
             ne_eqb (vol.junctions + vol.edge_from e) s (λ q. ne (let z : vol.edge_from e ≡ s - vol.junctions = omega arith in z ∙ sym (place_descending vol.junctions s h))),
           )
 
+-- where an edge leads, in every case
+pub ruleset lead_cases = (lead_up, lead_not_up, lead_down, lead_not_down, lead_unmarked)
+
 -- One arc
 
 -- an offer to a settled state changes nothing
@@ -187,11 +191,11 @@ offered_settled w s b k h = go (get_or w (4 * s) 0) h
 
 module _ (W : Web) (S s a k : ℕ) (w : List ℕ) where
   -- an arc that is not offered
-  pub arc_skipped : Nowhere ≡ lead_of W s k → Holds S w w (offer W s a k (labels S w))
+  pub arc_skipped : None ≡ lead_of W s k → Holds S w w (offer W s a k (labels S w))
   arc_skipped e =
       holds_as S w w (labels S w) (offer W s a k (labels S w)) (sym (offer_skips W s a k (labels S w) (leads_nowhere W s k e))) (holds_same S w)
 
-  module _ (to : ℕ) (e : To to ≡ lead_of W s k) (inside : to < S) where
+  module _ (to : ℕ) (e : Some to ≡ lead_of W s k) (inside : to < S) where
     -- the rule's offer, as a put at the state that the lead names
     is_offer : (b : ℕ) → W.arr k a ≡ b → offer W s a k (labels S w) ≡ put (labels S w) to (offered (labels S w to) b k)
     is_offer b q =

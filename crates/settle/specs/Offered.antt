@@ -83,6 +83,9 @@ module _ (w : List ℕ) (h s : ℕ) where
       go (suc zero) p = refl
       go (suc (suc n)) p = refl
 
+-- all of these
+pub ruleset offer_cases = (offer_fresh, offer_sooner, offer_later, offer_settled, head_fresh, head_stays)
+
 -- What it does to the table
 
 -- a label put where it stands

@@ -1,18 +1,16 @@
 -- What a run of the settling rule ends with, said in the theory's words.
-use Rattle.std.specs.Prelude.{ℕ, ◌+◌, ◌*◌, ◌^◌, ◌≤◌, ◌<◌, List, [], ◌≡◌, length, drop}
+use Rattle.std.specs.Prelude.{ℕ, ◌+◌, ◌*◌, ◌^◌, ◌≤◌, ◌<◌, List, [], ◌≡◌, Option, None, Some, length, drop}
 use Rattle.theory.specs.Settling.{arc_of, UpperEnd, none, at_most, no_way, closed, open_from, trail_back, web, answer}
 use Rattle.records.specs.Format.{Volume}
 use Rattle.travel.specs.Network.{network_of}
 use Rattle.settle.specs.Work.{labels}
-use Rattle.settle.specs.declared.Upper.{Upper}
-use Rattle.settle.specs.declared.Upper.TheVariants.{At, Missing}
 use Rattle.settle.specs.declared.Outcome.{Outcome}
 use Rattle.settle.specs.declared.Outcome.TheVariants.{NoWay, Closed, Open}
 
 -- the upper end of a window, in the theory's words
-abbrev pub upper_of : Upper → UpperEnd
-upper_of (At a) = at_most a
-upper_of Missing = none
+abbrev pub upper_of : Option ℕ → UpperEnd
+upper_of (Some a) = at_most a
+upper_of None = none
 
 -- the outcome is the rule's answer to the question from u to d, departure x, budget b; where it is closed, the work area w holds the
 -- labels along which the theory's trail leads back
@@ -24,9 +22,9 @@ Ends vol u d x b w (Closed a n) =
 Ends vol u d x b w (Open l h n) = answer (network_of vol) u d x b ≡ open_from l (upper_of h) n
 
 -- an end of a window is below 2 ^ 62
-abbrev pub UpperFits : Upper → Type 0
-UpperFits (At a) = a < 2 ^ 62
-UpperFits Missing = Unit {0}
+abbrev pub UpperFits : Option ℕ → Type 0
+UpperFits (Some a) = a < 2 ^ 62
+UpperFits None = Unit {0}
 
 -- every arrival of the outcome is below 2 ^ 62: refusal 10 cannot occur
 abbrev pub OutcomeFits : Outcome → Type 0

@@ -5,6 +5,7 @@ use Rattle.std.proofs.Common.{sym, ◌∙◌, ap, eq-eqb, ne_eqb}
 use Rattle.theory.specs.Settling.{Label, Pick as Picking, nobody, picked, none, at_most, upper_end, View as Viewing, nothing_waits, destination, next, view_from}
 use Rattle.settle.specs.Work.{label_of, labels, labels_in}
 use Rattle.settle.specs.Chain.{Precedes}
+use Rattle.settle.specs.declared.seen.Waiting.{Waiting}
 use Rattle.settle.specs.declared.seen.View.{View}
 use Rattle.settle.specs.declared.seen.View.TheVariants.{NothingWaits, Destination, Next}
 
@@ -12,17 +13,17 @@ use Rattle.settle.specs.declared.seen.View.TheVariants.{NothingWaits, Destinatio
 abbrev pub view_of : View → Viewing
 view_of NothingWaits = nothing_waits
 view_of (Destination a) = destination a
-view_of (Next s a b) = next s a
+view_of (Next p) = next p.state p.arrival
 
 -- the state to settle comes in the chain from h after the one that the view names
 abbrev pub ViewLinked : ℕ → List ℕ → ℕ → View → Type 0
 ViewLinked S w h NothingWaits = Unit {0}
 ViewLinked S w h (Destination a) = Unit {0}
-ViewLinked S w h (Next s a b) = Precedes S w h b s
+ViewLinked S w h (Next p) = Precedes S w h p.before p.state
 
--- so a view that names b is linked there
-pub view_linked : (S : ℕ) (w : List ℕ) (h s a b : ℕ) (v : View) → v ≡ Next s a b → ViewLinked S w h v → Precedes S w h b s
-view_linked S w h s a b v e l = rw e at l
+-- so the state that a view names is linked there
+pub view_linked : (S : ℕ) (w : List ℕ) (h : ℕ) (p : Waiting) (v : View) → v ≡ Next p → ViewLinked S w h v → Precedes S w h p.before p.state
+view_linked S w h p v e l = rw e at l
 
 -- What is seen, where d is the destination's state
 
@@ -58,6 +59,9 @@ module _ (S : ℕ) (w : List ℕ) (d : ℕ) (h : d < S) where
           go zero n = refl
           go (suc zero) n = absurd (n refl)
           go (suc (suc m)) n = refl
+
+-- what is seen where something waits
+pub ruleset see_cases = (see_destination, see_later, see_next)
 
 -- The upper end
 

@@ -1,7 +1,7 @@
 -- The rule unit by unit, as the code runs it: what holds before each unit, and what each of the tests ends it with. One unit adds at most
 -- one edge to an arrival, so with a 32-bit departure and budget every arrival stays below 2 ^ 62.
 use Prim.Native.Nat.{ℕ, zero, suc, ◌+◌, ◌-◌, ◌*◌, ◌^◌, ◌≤◌, ◌<◌}
-use Rattle.std.specs.Prelude.{List, ◌≡◌, refl, length, drop}
+use Rattle.std.specs.Prelude.{List, ◌≡◌, refl, Option, None, Some, length, drop}
 use Rattle.std.proofs.Math.Path.{sym}
 use Rattle.std.proofs.Common.{◌∙◌, ap, add-one}
 use native.Mathlib.Omega.{arith}
@@ -19,12 +19,11 @@ use Rattle.volume.specs.Sound.{Sound}
 use Rattle.travel.specs.Network.{network_of}
 use Rattle.travel.specs.Halves.{edge_short}
 use Rattle.settle.specs.Work.{label_at, labels, labels_in, cleared, cleared_zero, Holds, holds_then, holds_cleared}
-use Rattle.settle.specs.Chain.{Chained, chained_none}
+use Rattle.settle.specs.Chain.{WaitsAt, Chained, chained_none}
 use Rattle.settle.specs.Offered.{offer_to, head_to, holds_offer, rechained_offer}
+use Rattle.settle.specs.Scan.{waits_at}
 use Rattle.settle.specs.Arcs.{web_of, states_of}
 use Rattle.settle.specs.Outcome.{upper_of, Ends, UpperFits, OutcomeFits, Ran}
-use Rattle.settle.specs.declared.Upper.{Upper}
-use Rattle.settle.specs.declared.Upper.TheVariants.{At, Missing}
 use Rattle.settle.specs.declared.Outcome.{Outcome}
 use Rattle.settle.specs.declared.Outcome.TheVariants.{NoWay, Closed, Open}
 
@@ -53,11 +52,11 @@ modest_waits b E a (waiting c k) h w = omega (arith, h.0)
 modest_waits b E a (settled c k) h w = absurd w
 
 -- and the upper end that it gives
-modest_upper : (b E : ℕ) (l : Label) (h : Upper) → b < 2 ^ 62 → Modest b E l → upper_of h ≡ upper_end l → UpperFits h
-modest_upper b E nothing (At a) lt m e = absurd (let z : ◌≡◌ {A = ℕ} 0 1 = cc in omega arith)
-modest_upper b E (waiting c k) (At a) lt m e = let q : a ≡ c = cc in omega (arith, m.0)
-modest_upper b E (settled c k) (At a) lt m e = absurd (let z : ◌≡◌ {A = ℕ} 0 1 = cc in omega arith)
-modest_upper b E l Missing lt m e = tt
+modest_upper : (b E : ℕ) (l : Label) (h : Option ℕ) → b < 2 ^ 62 → Modest b E l → upper_of h ≡ upper_end l → UpperFits h
+modest_upper b E nothing (Some a) lt m e = absurd (let z : ◌≡◌ {A = ℕ} 0 1 = cc in omega arith)
+modest_upper b E (waiting c k) (Some a) lt m e = let q : a ≡ c = cc in omega (arith, m.0)
+modest_upper b E (settled c k) (Some a) lt m e = absurd (let z : ◌≡◌ {A = ℕ} 0 1 = cc in omega arith)
+modest_upper b E l None lt m e = tt
 
 module _ (vol : Volume) (S : Sound vol) (d : ℕ) where
   -- an arc adds at most one edge
@@ -193,6 +192,10 @@ module _ (vol : Volume) (S : Sound vol) (u d x b : ℕ) (w₀ : List ℕ) (n : �
       pub next_fits : a < 2 ^ 62
       next_fits = waits_fits s a next_waits
 
+      -- so it can be settled
+      pub next_can : (s < states_of vol) × WaitsAt w s × (a < 2 ^ 62)
+      next_can = (next_inside, (waits_at (states_of vol) w s a next_inside next_waits).0, next_fits)
+
       -- one unit more
       pub onward_unit : (v : List ℕ) → n < b → Holds (states_of vol) w v (settle (web_of vol d) s a (labels (states_of vol) w))
           → Onward vol u d x b w₀ (n + 1) v
@@ -246,7 +249,7 @@ module _ (vol : Volume) (S : Sound vol) (u d x b : ℕ) (w₀ : List ℕ) (n : �
           (waits_fits (vol.junctions + d) a (sees (destination a) q).0)
 
       -- the budget is spent
-      pub ran_open : (s a : ℕ) (h : Upper) → next s a ≡ seen_in vol d w → n ≡ b
+      pub ran_open : (s a : ℕ) (h : Option ℕ) → next s a ≡ seen_in vol d w → n ≡ b
           → upper_of h ≡ upper_end (label_at w (vol.junctions + d)) → Ran vol u d x b e w (Open a h n)
       ran_open s a h q spent top =
           let l : upper_of h ≡ upper_end (L (vol.junctions + d)) =

@@ -1,8 +1,8 @@
 -- One unit over the work area: the state's kind becomes settled, the turn is offered, and then its edges by a walk through the index.
-use Rattle.std.specs.Prelude.{ℕ, zero, suc, ◌+◌, ◌*◌, ◌≤◌, ◌<◌, true, false, List, ◌≢◌, ◌≡◌, refl, eqb, ltb, length, get_or, set}
+use Rattle.std.specs.Prelude.{ℕ, zero, suc, ◌+◌, ◌*◌, ◌≤◌, ◌<◌, Bool, true, false, None, Some, List, ◌≡◌, refl, ltb, length, get_or, set}
 use Rattle.std.proofs.Math.Path.{sym}
-use Rattle.std.proofs.Common.{◌∙◌, ap, arith, add-one, get_or-set_other, eq-eqb, ne_eqb, lt-ltb, le-ltb}
-use Rattle.std.proofs.Math.Decide.{dec_lt, ℕ_discrete}
+use Rattle.std.proofs.Common.{◌∙◌, ap, arith, add-one, get_or-set_other, lt-ltb, le-ltb}
+use Rattle.std.proofs.Math.Decide.{dec_lt}
 use Rattle.std.proofs.lemmas.List.{set-get_or}
 use Rattle.block.specs.Choose.{choose, choose_yes, choose_no}
 use Rattle.theory.specs.Settling.{Table, put, offer, relax, settle_label, settle, leaves_by}
@@ -13,10 +13,9 @@ use Rattle.records.specs.Index.{next_from, next_low, next_skips}
 use Rattle.travel.specs.Network.{network_of}
 use Rattle.settle.specs.Work.{label_of, labels, labels_in, store, Holds, holds_same, holds_then, holds_as, holds_store}
 use Rattle.settle.specs.Chain.{WaitsAt}
-use Rattle.settle.specs.Offered.{offer_to}
-use Rattle.settle.specs.Marked.{MarksBelow, mark_one, mark_other}
+use Rattle.settle.specs.Offered.{offer_to, rechained_offer}
+use Rattle.settle.specs.Marked.{MarksBelow}
 use Rattle.settle.specs.Arcs.{web_of, states_of, place_of, lead_of, leaves_away, arc_skipped, arc_offered}
-use Rattle.settle.specs.declared.arcs.Lead.TheVariants.{To, Nowhere}
 
 -- Settled
 
@@ -46,60 +45,64 @@ holds_settled S w s h l waits =
 
 -- the work area after state s, settled at a, offered its own junction, descending, if it climbs and is marked; h is the
 -- first of the chain
-unfoldable pub turned : List ℕ → ℕ → ℕ → ℕ → ℕ → List ℕ → List ℕ
-turned marks n s a h w = choose (ltb s n) (choose (eqb (get_or marks s 0) 1) (offer_to w h (n + s) a 0) w) w
+unfoldable pub turned : List Bool → ℕ → ℕ → ℕ → ℕ → List ℕ → List ℕ
+turned marks n s a h w = choose (ltb s n) (choose (get_or marks s false) (offer_to w h (n + s) a 0) w) w
 
-module _ (marks : List ℕ) (n s a f : ℕ) (w : List ℕ) where
+module _ (marks : List Bool) (n s a f : ℕ) (w : List ℕ) where
   -- a climbing state that is marked
-  pub turn_made : s < n → get_or marks s 0 ≡ 1 → offer_to w f (n + s) a 0 ≡ turned marks n s a f w
+  pub turn_made : s < n → get_or marks s false ≡ true → offer_to w f (n + s) a 0 ≡ turned marks n s a f w
   unfolding turned
-  turn_made h m = sym (choose_yes _ _ (lt-ltb s n h) ∙ choose_yes _ _ (eq-eqb (get_or marks s 0) 1 m))
+  turn_made h m = sym (choose_yes _ _ (lt-ltb s n h) ∙ choose_yes _ _ m)
 
   -- one that is not marked
-  pub turn_unmarked : s < n → get_or marks s 0 ≢ 1 → w ≡ turned marks n s a f w
+  pub turn_unmarked : s < n → get_or marks s false ≡ false → w ≡ turned marks n s a f w
   unfolding turned
-  turn_unmarked h m = sym (choose_yes _ _ (lt-ltb s n h) ∙ choose_no _ _ (ne_eqb (get_or marks s 0) 1 m))
+  turn_unmarked h m = sym (choose_yes _ _ (lt-ltb s n h) ∙ choose_no _ _ m)
 
   -- a descending state
   pub turn_none : n ≤ s → w ≡ turned marks n s a f w
   unfolding turned
   turn_none h = sym (choose_no _ _ (le-ltb s n h))
 
+-- all of these, and that the chain stands after an offer
+pub ruleset turn_cases = (turn_made, turn_unmarked, turn_none, rechained_offer)
+
 module _ (vol : Volume) (d s a : ℕ) where
   -- the turn is arc 0: a marked climbing state offers it
-  turn_lead : s < vol.junctions → marked (network_of vol) d s ≡ true → To (vol.junctions + s) ≡ lead_of (web_of vol d) s 0
+  turn_lead : s < vol.junctions → marked (network_of vol) d s ≡ true → Some (vol.junctions + s) ≡ lead_of (web_of vol d) s 0
   unfolding network_of
   turn_lead h m = sym (choose_yes _ _ (rw (lt-ltb s vol.junctions h) m))
 
   -- one that is not marked does not
-  turn_nowhere : s < vol.junctions → marked (network_of vol) d s ≡ false → Nowhere ≡ lead_of (web_of vol d) s 0
+  turn_nowhere : s < vol.junctions → marked (network_of vol) d s ≡ false → None ≡ lead_of (web_of vol d) s 0
   unfolding network_of
   turn_nowhere h m = sym (choose_no _ _ (rw (lt-ltb s vol.junctions h) m))
 
   -- nor does a descending one
-  turn_descending : vol.junctions ≤ s → Nowhere ≡ lead_of (web_of vol d) s 0
+  turn_descending : vol.junctions ≤ s → None ≡ lead_of (web_of vol d) s 0
   unfolding network_of
   turn_descending h = sym (choose_no _ _ (rw (le-ltb s vol.junctions h)))
 
   -- so the turn is offered
-  pub turn_offered : (n f : ℕ) (marks w v : List ℕ) → n ≡ vol.junctions → 8 * n ≤ length w → MarksBelow vol d vol.junctions marks
+  pub turn_offered : (n f : ℕ) (marks : List Bool) (w v : List ℕ) → n ≡ vol.junctions → 8 * n ≤ length w → MarksBelow vol d vol.junctions marks
       → v ≡ turned marks n s a f w → Holds (states_of vol) w v (offer (web_of vol d) s a 0 (labels (states_of vol) w))
-  turn_offered n f marks w v count room M is = go (dec_lt s n) (ℕ_discrete (get_or marks s 0) 1)
+  turn_offered n f marks w v count room M is = go (dec_lt s n) (get_or marks s false) refl
     where
-      skipped : Nowhere ≡ lead_of (web_of vol d) s 0 → w ≡ turned marks n s a f w
+      skipped : None ≡ lead_of (web_of vol d) s 0 → w ≡ turned marks n s a f w
           → Holds (states_of vol) w v (offer (web_of vol d) s a 0 (labels (states_of vol) w))
       skipped e q = rw (is ∙ sym q) (arc_skipped (web_of vol d) (states_of vol) s a 0 w e)
 
-      go : Dec (s < n) → Dec (get_or marks s 0 ≡ 1) → Holds (states_of vol) w v (offer (web_of vol d) s a 0 (labels (states_of vol) w))
-      go (yes h) (yes m) =
+      go : Dec (s < n) → (b : Bool) → get_or marks s false ≡ b
+          → Holds (states_of vol) w v (offer (web_of vol d) s a 0 (labels (states_of vol) w))
+      go (yes h) true m =
           let l : s < vol.junctions = omega arith in
           arc_offered (web_of vol d) (states_of vol) s a 0 w (vol.junctions + s)
-          (turn_lead l (mark_one (marked (network_of vol) d s) (get_or marks s 0) (M s l) m)) (omega arith) f a 0 v refl refl (omega arith)
+          (turn_lead l (sym (M s l) ∙ m)) (omega arith) f a 0 v refl refl (omega arith)
           (is ∙ sym (turn_made marks n s a f w h m) ∙ ap (λ (m : ℕ). offer_to w f (m + s) a 0) count)
-      go (yes h) (no m) =
+      go (yes h) false m =
           let l : s < vol.junctions = omega arith in
-          skipped (turn_nowhere l (mark_other (marked (network_of vol) d s) (get_or marks s 0) (M s l) m)) (turn_unmarked marks n s a f w h m)
-      go (no g) m = skipped (turn_descending (omega arith)) (turn_none marks n s a f w (omega arith))
+          skipped (turn_nowhere l (sym (M s l) ∙ m)) (turn_unmarked marks n s a f w h m)
+      go (no g) b m = skipped (turn_descending (omega arith)) (turn_none marks n s a f w (omega arith))
 
 -- The walk
 

@@ -10,17 +10,12 @@ ghost use Rattle.settle.specs.Arcs.{Ready, Does, place_of, web_of, lead_of, Lead
 ghost use Rattle.settle.specs.Walk.{turned};
 
 use crate::labels::{SETTLED, STATE, offer_to, take_out};
+use crate::seen::Waiting;
 use records::tables::{Counts, Tables, edge_to};
 use travel::edge::edge_duration;
 
-// The state to which an edge leads a state, if the state offers it.
-#[derive(Clone, Copy)]
-pub enum Lead {
-    To(usize),
-    Nowhere,
-}
-
 // The junction at which state s stands.
+#[tactic(auto, using(crate::specs::Arcs::place_cases))]
 fn place(n: usize, s: usize) -> usize
     ensures { result ≡ place_of n s }
 {
@@ -30,8 +25,9 @@ fn place(n: usize, s: usize) -> usize
     s - n
 }
 
-// Where edge e leads state s: a climbing state to higher rank, a descending one to a lower marked junction.
-fn lead_of(v: &[u8], t: Tables, n: usize, marks: &[u8], s: usize, e: usize) -> Lead
+// The state to which edge e leads state s, if s offers it: a climbing state to higher rank, a descending one to a lower marked junction.
+#[tactic(auto, using(crate::specs::Arcs::lead_cases))]
+fn lead_of(v: &[u8], t: Tables, n: usize, marks: &[bool], s: usize, e: usize) -> Option<usize>
     requires ready { Ready v.now t n marks.now s }
     requires e_bound { (e < (volume_of v.now).edges) × ((volume_of v.now).edge_from e ≡ place_of n s) }
     ensures leads_below { LeadsBelow (n + n) result }
@@ -40,16 +36,16 @@ fn lead_of(v: &[u8], t: Tables, n: usize, marks: &[u8], s: usize, e: usize) -> L
     let w = edge_to(v, t, e);
     if s < n {
         if s < w {
-            return Lead::To(w);
+            return Some(w);
         }
-        return Lead::Nowhere;
+        return None;
     }
     if w < s - n {
-        if marks[w] == 1 {
-            return Lead::To(n + w);
+        if marks[w] {
+            return Some(n + w);
         }
     }
-    Lead::Nowhere
+    None
 }
 
 // Offers edge e from state s, which is settled at `arrival`. The time of an edge to a settled state is not asked. Returns the first of the
@@ -59,7 +55,7 @@ fn offer_edge(
     t: Tables,
     digest: &[u32],
     n: usize,
-    marks: &[u8],
+    marks: &[bool],
     s: usize,
     e: usize,
     arrival: u64,
@@ -73,7 +69,7 @@ fn offer_edge(
     ensures does { Does (volume_of v.now) marks.now work.old work.new (λ W. offer W s arrival (suc e)) }
     ensures rechained { Rechained (n + n) work.old head work.new result }
 {
-    let Lead::To(to) = lead_of(v, t, n, marks, s, e) else {
+    let Some(to) = lead_of(v, t, n, marks, s, e) else {
         return head;
     };
     let at = STATE * to;
@@ -85,9 +81,10 @@ fn offer_edge(
 }
 
 // Offers the turn from state s, which is settled at `arrival`: a climbing state its own junction, descending, if marked.
+#[tactic(auto, using(crate::specs::Walk::turn_cases))]
 fn offer_turn(
     n: usize,
-    marks: &[u8],
+    marks: &[bool],
     s: usize,
     arrival: u64,
     head: usize,
@@ -98,7 +95,7 @@ fn offer_turn(
     ensures rechained { Rechained (n + n) work.old head work.new result }
 {
     if s < n {
-        if marks[s] == 1 {
+        if marks[s] {
             return offer_to(work, head, n + s, arrival, 0);
         }
     }
@@ -113,7 +110,7 @@ fn offer_arcs(
     first: &[u16],
     next: &[u16],
     digest: &[u32],
-    marks: &[u8],
+    marks: &[bool],
     s: usize,
     arrival: u64,
     head: usize,
@@ -139,7 +136,7 @@ fn offer_arcs(
     front
 }
 
-// One unit: settles state s, which waits with `arrival` and comes in the chain after `before`, and makes its offers.
+// One unit: settles the state that waits, and makes its offers.
 pub fn settle_state(
     v: &[u8],
     t: Tables,
@@ -147,25 +144,35 @@ pub fn settle_state(
     first: &[u16],
     next: &[u16],
     digest: &[u32],
-    marks: &[u8],
-    s: usize,
-    arrival: u64,
-    before: usize,
+    marks: &[bool],
+    waiting: Waiting,
     head: usize,
     work: &mut [u64],
 ) -> usize
-    requires ready { Ready v.now t c.junctions marks.now s }
+    requires ready { Ready v.now t c.junctions marks.now waiting.state }
     requires digest { Digest (volume_of v.now) digest.now }
     requires counted { Counted (volume_of v.now) c }
     requires linked { Linked (volume_of v.now) first.now next.now }
-    requires arrival_bound { (arrival < 2 ^ 62) × (8 * c.junctions ≤ length work.old) }
-    requires waits_at { WaitsAt work.old s }
+    requires arrival_bound { (waiting.arrival < 2 ^ 62) × (8 * c.junctions ≤ length work.old) }
+    requires waits_at { WaitsAt work.old waiting.state }
     requires chained { Chained (c.junctions + c.junctions) work.old head }
-    requires precedes { Precedes (c.junctions + c.junctions) work.old head before s }
-    ensures does { Does (volume_of v.now) marks.now work.old work.new (λ W. settle W s arrival) }
+    requires precedes { Precedes (c.junctions + c.junctions) work.old head waiting.before waiting.state }
+    ensures does { Does (volume_of v.now) marks.now work.old work.new (λ W. settle W waiting.state waiting.arrival) }
     ensures chained_2 { Chained (c.junctions + c.junctions) work.new result }
 {
     let n = c.junctions;
-    let front = take_out(work, n + n, head, s, before);
-    offer_arcs(v, t, c, first, next, digest, marks, s, arrival, front, work)
+    let front = take_out(work, n + n, head, waiting.state, waiting.before);
+    offer_arcs(
+        v,
+        t,
+        c,
+        first,
+        next,
+        digest,
+        marks,
+        waiting.state,
+        waiting.arrival,
+        front,
+        work,
+    )
 }

@@ -6,10 +6,19 @@ ghost use Rattle.settle.specs.Work.{store, labels, Holds};
 ghost use Rattle.settle.specs.Chain.{WaitsAt, Chained, Precedes};
 ghost use Rattle.settle.specs.Offered.{offer_to, head_to};
 
-// The numbers of a state.
+// The numbers of a state: its kind, and then, so far after it, its arrival, its arc and the state after it in the chain.
 pub const STATE: usize = 4;
 
-// The kinds of a label. A state with no label has kind 0.
+pub const ARRIVAL: usize = 1;
+
+pub const ARC: usize = 2;
+
+pub const NEXT: usize = 3;
+
+// The kinds of a label. They are numbers and no enum, because they stand in the memory that the host lends. A state with no label has
+// kind 0.
+pub const NO_LABEL: u64 = 0;
+
 pub const WAITING: u64 = 1;
 
 pub const SETTLED: u64 = 2;
@@ -21,12 +30,13 @@ pub fn put_label(work: &mut [u64], s: usize, kind: u64, arrival: u64, arc: u64)
 {
     let at = STATE * s;
     work[at] = kind;
-    work[at + 1] = arrival;
-    work[at + 2] = arc;
+    work[at + ARRIVAL] = arrival;
+    work[at + ARC] = arc;
 }
 
 // Offers an arrival by an arc to state s: it counts for a state that is not settled, if none or a strictly later arrival waits there. A
 // state that begins to wait goes in front of the chain. Returns the first of the chain.
+#[tactic(auto, using(crate::specs::Offered::offer_cases))]
 pub fn offer_to(work: &mut [u64], head: usize, s: usize, arrival: u64, arc: u64) -> usize
     requires { 4 * s + 4 ≤ length work.old }
     ensures work_after { work.new ≡ offer_to work.old head s arrival arc }
@@ -34,13 +44,13 @@ pub fn offer_to(work: &mut [u64], head: usize, s: usize, arrival: u64, arc: u64)
 {
     let at = STATE * s;
     let kind = work[at];
-    if kind == 0 {
+    if kind == NO_LABEL {
         put_label(work, s, WAITING, arrival, arc);
-        work[at + 3] = head as u64;
+        work[at + NEXT] = head as u64;
         return s;
     }
     if kind == WAITING {
-        if arrival < work[at + 1] {
+        if arrival < work[at + ARRIVAL] {
             put_label(work, s, WAITING, arrival, arc);
             return head;
         }
@@ -59,10 +69,10 @@ pub fn take_out(work: &mut [u64], states: usize, head: usize, s: usize, before: 
 {
     let at = STATE * s;
     work[at] = SETTLED;
-    let after = work[at + 3];
+    let after = work[at + NEXT];
     if before < states {
         let link = STATE * before;
-        work[link + 3] = after;
+        work[link + NEXT] = after;
         return head;
     }
     after as usize

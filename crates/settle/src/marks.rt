@@ -16,8 +16,8 @@ fn mark_of(
     edges: usize,
     to: usize,
     u: usize,
-    marks: &[u8],
-) -> u8
+    marks: &[bool],
+) -> bool
     requires laid { Laid v.now t }
     requires linked { Linked (volume_of v.now) first.now next.now }
     requires edges_value { (edges ≡ (volume_of v.now).edges) × (u < (volume_of v.now).junctions) × (u < length marks.now) }
@@ -25,19 +25,19 @@ fn mark_of(
     ensures { result ≡ mark_of (volume_of v.now) to u }
 {
     if u == to {
-        return 1;
+        return true;
     }
     let mut e = first[u] as usize;
     while e < edges {
         let w = edge_to(v, t, e);
         if w < u {
-            if marks[w] == 1 {
-                return 1;
+            if marks[w] {
+                return true;
             }
         }
         e = next[e] as usize;
     }
-    0
+    false
 }
 
 // The mark of every junction.
@@ -48,7 +48,7 @@ pub fn mark(
     first: &[u16],
     next: &[u16],
     to: usize,
-    marks: &mut [u8],
+    marks: &mut [bool],
 )
     requires laid { Laid v.now t }
     requires counted { Counted (volume_of v.now) c }
@@ -58,9 +58,7 @@ pub fn mark(
 {
     let n = c.junctions;
     let edges = c.edges;
-    let mut u: usize = 0;
-    while u < n {
+    for u in 0..n {
         marks[u] = mark_of(v, t, first, next, edges, to, u, marks);
-        u += 1;
     }
 }

@@ -5,8 +5,10 @@ use Rattle.records.specs.Format.{volume_of}
 use Rattle.settle.proofs.units.Given as goal
 
 abbrev pub invariant-loop-arrival : goal.invariant-loop-arrival
-invariant-loop-arrival l =
-    Onward (volume_of l.v) l.from l.to l.departure l.budget l.initial.work l.used l.work × Chained (l.n + l.n) l.work l.head
+invariant-loop-arrival l = record {
+  onward : Onward (volume_of l.v) l.query.from l.query.to l.query.departure l.query.budget l.fn.work l.used l.work;
+  chained : Chained (l.n + l.n) l.work l.head;
+}
 
 abbrev pub decreases-loop-arrival : goal.decreases-loop-arrival
-decreases-loop-arrival l = l.budget - l.used
+decreases-loop-arrival l = l.query.budget - l.used

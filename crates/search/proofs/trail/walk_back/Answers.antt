@@ -1,27 +1,23 @@
-use Prim.Native.Nat.{◌-◌}
+use Prim.Native.Nat.{◌+◌, ◌-◌}
+use mathlib.Core.Path.{◌≡◌}
 use native.Mathlib.Omega.{arith}
-use lib.ListN.{length-set}
 use Rattle.search.specs.Trail.{walk_home, walk_over, walk_turn, walk_edge}
 use Rattle.search.proofs.trail.walk_back.Goals as goal
+use Rattle.search.proofs.trail.walk_back.Goals.{then-arc-ne0, else-arc-ne0}
 
 pub returns-then-s-from : goal.returns-then-s-from
-returns-then-s-from c =
-    walk_home c.loop-left.invariant.0 c.if-s-from.true
+returns-then-s-from c = walk_home c.loop-walked.invariant c.if-s-from.true
 
-pub loop-left-preserved-then-arc-ne0 : goal.loop-left-preserved-then-arc-ne0
-loop-left-preserved-then-arc-ne0 c =
-    let k = c.arc_at-arc in (
-      walk_edge c.loop-left.invariant.0 c.requires.sound c.args.n k.result _ c.requires.walkable k.ensures c.came_from-s.ensures (omega arith) c.if-s-from.false (k.result - 1) (omega arith),
-      rw length-set c.loop-left.invariant.1,
-    )
-
-pub loop-left-preserved : goal.loop-left-preserved
-loop-left-preserved c =
-    let k = c.arc_at-arc in (
-      walk_turn c.loop-left.invariant.0 c.requires.sound c.args.n k.result _ c.requires.walkable k.ensures c.came_from-s.ensures (omega arith) c.if-s-from.false (omega arith),
-      c.loop-left.invariant.1,
-    )
+pub loop-walked-preserved : goal.loop-walked-preserved
+loop-walked-preserved c =
+    let k = c.arc_at-arc in
+    let H = c.loop-walked.invariant in
+    let left : c.args.used - (c.loop-walked._walked + 1) ≡ c.args.used - c.loop-walked._walked - 1 = omega arith in
+    rw left
+    (elim c.if-arc-ne0.branch [
+      | then-arc-ne0 w ↦ rw (w.at-is, w.trail-is) (walk_edge H c.requires.sound c.args.n k.result _ c.requires.walkable k.ensures c.came_from-s.ensures (omega arith) c.if-s-from.false (k.result - 1) (omega (arith, w.if-arc-ne0.true)))
+      | else-arc-ne0 w ↦ rw (w.at-is, w.trail-is) (walk_turn H c.requires.sound c.args.n k.result _ c.requires.walkable k.ensures c.came_from-s.ensures (omega arith) c.if-s-from.false w.if-arc-ne0.false)
+    ])
 
 pub returns : goal.returns
-returns c =
-    walk_over c.loop-left.invariant.0 (omega arith)
+returns c = walk_over c.loop-walked.invariant (omega arith)

@@ -22,17 +22,17 @@ pub returns-then-work-at-lt-SETTLED-clause-does : goal.returns-then-work-at-lt-S
 returns-then-work-at-lt-SETTLED-clause-does c =
     let vol = volume_of c.args.v.now in
     let R = c.requires.ready in
-    let below = lead_below (c.args.n + c.args.n) _ _ c.in-To.is c.lead_of.ensures.leads_below in
+    let below = lead_below (c.args.n + c.args.n) _ _ c.in-Some.is c.lead_of.ensures.leads_below in
     let o = c.offer_to in
     λ d m. arc_offered (web_of vol d) (states_of vol) c.args.s c.args.arrival (suc c.args.e) c.args.work.now _
-    (sym c.in-To.is ∙ c.lead_of.ensures.by_index d m) (omega (arith, R.count)) c.args.head _ _ _
+    (sym c.in-Some.is ∙ c.lead_of.ensures.by_index d m) (omega (arith, R.count)) c.args.head _ _ _
     c.edge_duration.ensures (add-one c.args.e) (omega (arith, R.count, c.requires.arrival_bound.1)) o.ensures.work_after
 
 pub returns-then-work-at-lt-SETTLED-clause-rechained : goal.returns-then-work-at-lt-SETTLED-clause-rechained
 returns-then-work-at-lt-SETTLED-clause-rechained c =
     let vol = volume_of c.args.v.now in
     let R = c.requires.ready in
-    let below = lead_below (c.args.n + c.args.n) _ _ c.in-To.is c.lead_of.ensures.leads_below in
+    let below = lead_below (c.args.n + c.args.n) _ _ c.in-Some.is c.lead_of.ensures.leads_below in
     let o = c.offer_to in
     rechained_offer (c.args.n + c.args.n) c.args.work.now c.args.head _ _ _ below (omega (arith, c.requires.arrival_bound.1)) _ _ o.ensures.work_after o.ensures.value
 
@@ -40,6 +40,6 @@ pub returns-clause-does : goal.returns-clause-does
 returns-clause-does c =
     let vol = volume_of c.args.v.now in
     let R = c.requires.ready in
-    let below = lead_below (c.args.n + c.args.n) _ _ c.in-To.is c.lead_of.ensures.leads_below in
+    let below = lead_below (c.args.n + c.args.n) _ _ c.in-Some.is c.lead_of.ensures.leads_below in
     λ d m. arc_settled (web_of vol d) (states_of vol) c.args.s c.args.arrival (suc c.args.e) c.args.work.now _
-    (sym c.in-To.is ∙ c.lead_of.ensures.by_index d m) (omega (arith, R.count)) c.if-work-at-lt-SETTLED.false
+    (sym c.in-Some.is ∙ c.lead_of.ensures.by_index d m) (omega (arith, R.count)) c.if-work-at-lt-SETTLED.false

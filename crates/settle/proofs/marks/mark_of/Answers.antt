@@ -5,13 +5,13 @@ use native.Mathlib.Omega.{arith}
 use borrow.Author.Count.{below_more}
 use borrow.Author.Rules.{rules}
 use Rattle.settle.specs.Edges.{on_walk, walk_none}
-use Rattle.settle.specs.Marked.{mark_one, mark_other, falls, falls_away, falls_high, falls_unmarked, mark_destination, mark_above, mark_missing}
+use Rattle.settle.specs.Marked.{falls, falls_away, falls_high, falls_unmarked, mark_destination, mark_above, mark_missing}
 use Rattle.travel.specs.Network.{network_of}
 use Rattle.records.specs.Index.{next_low, link_next}
 use Rattle.records.specs.Format.{volume_of}
 use Rattle.theory.specs.Marks.{marked}
 use Rattle.settle.proofs.marks.mark_of.Goals as goal
-use Rattle.settle.proofs.marks.mark_of.Goals.{then-w-u+else-marks-w-eq1, else-w-u}
+use Rattle.settle.proofs.marks.mark_of.Goals.{then-w-u+else-marks-w, else-w-u}
 
 pub returns-then-u-to : goal.returns-then-u-to
 returns-then-u-to c =
@@ -27,14 +27,14 @@ loop-e-init c =
       walk_none vol u 0 _ (falls vol c.args.to u) (omega arith) is (falls_away vol c.args.to u) (λ j h. absurd (omega arith)),
     )
 
-pub returns-then-marks-w-eq1 : goal.returns-then-marks-w-eq1
-returns-then-marks-w-eq1 c =
+pub returns-then-marks-w : goal.returns-then-marks-w
+returns-then-marks-w c =
     let vol = volume_of c.args.v.now in
     let to = c.edge_to-w.ensures.0 in
     let lt : c.loop-e.e < vol.edges = search rules in
     let below = c.if-w-u.true in
     mark_above vol c.args.to c.args.u c.loop-e.e lt (c.loop-e.invariant.0.begins lt) (omega arith)
-    (sym (ap (marked (network_of vol) c.args.to) to) ∙ mark_one _ _ (c.requires.marks_below _ below) c.if-marks-w-eq1.true)
+    (sym (ap (marked (network_of vol) c.args.to) to) ∙ sym (c.requires.marks_below _ below) ∙ c.if-marks-w.true)
 
 pub loop-e-smaller : goal.loop-e-smaller
 loop-e-smaller c =
@@ -55,7 +55,7 @@ loop-e-preserved c =
     let to = c.edge_to-w.ensures.0 in
     let is = link_next vol _ _ u e c.requires.linked lt from c.requires.edges_value.1 in
     let here : falls vol d u e ≡ false = elim c.if-w-u.branch [
-      | then-w-u+else-marks-w-eq1 w ↦ falls_unmarked vol d u e from (omega (arith, w.if-w-u.true)) (sym (ap (marked (network_of vol) d) to) ∙ mark_other _ _ (c.requires.marks_below _ w.if-w-u.true) w.if-marks-w-eq1.false)
+      | then-w-u+else-marks-w w ↦ falls_unmarked vol d u e from (omega (arith, w.if-w-u.true)) (sym (ap (marked (network_of vol) d) to) ∙ sym (c.requires.marks_below _ w.if-w-u.true) ∙ w.if-marks-w.false)
       | else-w-u w ↦ falls_high vol d u e from (omega (arith, w.if-w-u.false))
     ] in (
       on_walk vol u (e + 1) _ (omega arith) is,

@@ -1,18 +1,10 @@
-use Rattle.settle.specs.Scan.{scan_first, scan_more, scan_less, scan_ends}
+use Rattle.settle.specs.Scan.{scan_less, scan_ends}
 use Rattle.settle.proofs.seen.least_waiting.Goals as goal
-
-pub loop-t-init : goal.loop-t-init
-loop-t-init c = scan_first c.args.states c.args.work.now c.args.head c.requires.1
 
 pub loop-t-smaller : goal.loop-t-smaller
 loop-t-smaller c =
     let a = c.args in
     scan_less a.states a.work.now a.head c.loop-t.best c.loop-t.before c.loop-t.t c.loop-t.invariant c.loop-t-test.true
-
-pub loop-t-preserved : goal.loop-t-preserved
-loop-t-preserved c =
-    let a = c.args in
-    rw c.sooner-best.ensures (scan_more a.states a.work.now a.head c.loop-t.best c.loop-t.before c.loop-t.t c.loop-t.invariant c.loop-t-test.true)
 
 pub returns-clause-result_value : goal.returns-clause-result_value
 returns-clause-result_value c =
