@@ -1,18 +1,15 @@
 // The offers of a settled state.
 ghost use Rattle.std.specs.Prelude.{◌≡◌, ℕ, suc, ◌+◌, ◌*◌, ◌^◌, ◌≤◌, ◌<◌, length};
 ghost use Rattle.theory.specs.Settling.{offer, relax, settle};
-ghost use Rattle.records.specs.Format.{volume_of, Counted};
-ghost use Rattle.records.specs.Index.{Linked};
-ghost use Rattle.travel.specs.Digest.{Digest};
+ghost use Rattle.records.specs.Format.{volume_of};
 ghost use Rattle.settle.specs.Chain.{WaitsAt, Chained, Precedes, Rechained};
 ghost use Rattle.settle.specs.Marked.{MarksBelow};
-ghost use Rattle.settle.specs.Arcs.{Ready, Does, place_of, web_of, lead_of, LeadsBelow};
+ghost use Rattle.settle.specs.Arcs.{Does, place_of, web_of, lead_of, LeadsBelow};
 ghost use Rattle.settle.specs.Walk.{turned};
 
 use crate::labels::{SETTLED, STATE, offer_to, take_out};
 use crate::seen::Waiting;
-use records::tables::{Counts, Tables, edge_to};
-use travel::edge::edge_duration;
+use travel::roadmap::Roadmap;
 
 // The junction at which state s stands.
 #[tactic(auto, using(crate::specs::Arcs::place_cases))]
@@ -27,13 +24,14 @@ fn place(n: usize, s: usize) -> usize
 
 // The state to which edge e leads state s, if s offers it: a climbing state to higher rank, a descending one to a lower marked junction.
 #[tactic(auto, using(crate::specs::Arcs::lead_cases))]
-fn lead_of(v: &[u8], t: Tables, n: usize, marks: &[bool], s: usize, e: usize) -> Option<usize>
-    requires ready { Ready v.now t n marks.now s }
-    requires e_bound { (e < (volume_of v.now).edges) × ((volume_of v.now).edge_from e ≡ place_of n s) }
-    ensures leads_below { LeadsBelow (n + n) result }
-    ensures by_index { (d : ℕ) → MarksBelow (volume_of v.now) d (volume_of v.now).junctions marks.now → result ≡ lead_of (web_of (volume_of v.now) d) s (suc e) }
+fn lead_of(map: &Roadmap<'_>, marks: &[bool], s: usize, e: usize) -> Option<usize>
+    requires s_bound { (map.now.times.opened.records.counts.junctions ≤ length marks.now) × (s < map.now.times.opened.records.counts.junctions + map.now.times.opened.records.counts.junctions) }
+    requires e_bound { (e < (volume_of map.now.times.opened.records.bytes.now).edges) × ((volume_of map.now.times.opened.records.bytes.now).edge_from e ≡ place_of map.now.times.opened.records.counts.junctions s) }
+    ensures leads_below { LeadsBelow (map.now.times.opened.records.counts.junctions + map.now.times.opened.records.counts.junctions) result }
+    ensures by_index { (d : ℕ) → MarksBelow (volume_of map.now.times.opened.records.bytes.now) d (volume_of map.now.times.opened.records.bytes.now).junctions marks.now → result ≡ lead_of (web_of (volume_of map.now.times.opened.records.bytes.now) d) s (suc e) }
 {
-    let w = edge_to(v, t, e);
+    let n = map.times.opened.records.counts.junctions;
+    let w = map.times.opened.records.edge(e).to;
     if s < n {
         if s < w {
             return Some(w);
@@ -51,10 +49,7 @@ fn lead_of(v: &[u8], t: Tables, n: usize, marks: &[bool], s: usize, e: usize) ->
 // Offers edge e from state s, which is settled at `arrival`. The time of an edge to a settled state is not asked. Returns the first of the
 // chain, as every function here that makes offers does.
 fn offer_edge(
-    v: &[u8],
-    t: Tables,
-    digest: &[u32],
-    n: usize,
+    map: &Roadmap<'_>,
     marks: &[bool],
     s: usize,
     e: usize,
@@ -62,19 +57,18 @@ fn offer_edge(
     head: usize,
     work: &mut [u64],
 ) -> usize
-    requires ready { Ready v.now t n marks.now s }
-    requires digest { Digest (volume_of v.now) digest.now }
-    requires e_bound { (e < (volume_of v.now).edges) × ((volume_of v.now).edge_from e ≡ place_of n s) }
-    requires arrival_bound { (arrival < 2 ^ 62) × (8 * n ≤ length work.old) }
-    ensures does { Does (volume_of v.now) marks.now work.old work.new (λ W. offer W s arrival (suc e)) }
-    ensures rechained { Rechained (n + n) work.old head work.new result }
+    requires s_bound { (map.now.times.opened.records.counts.junctions ≤ length marks.now) × (s < map.now.times.opened.records.counts.junctions + map.now.times.opened.records.counts.junctions) }
+    requires e_bound { (e < (volume_of map.now.times.opened.records.bytes.now).edges) × ((volume_of map.now.times.opened.records.bytes.now).edge_from e ≡ place_of map.now.times.opened.records.counts.junctions s) }
+    requires arrival_bound { (arrival < 2 ^ 62) × (8 * map.now.times.opened.records.counts.junctions ≤ length work.old) }
+    ensures does { Does (volume_of map.now.times.opened.records.bytes.now) marks.now work.old work.new (λ W. offer W s arrival (suc e)) }
+    ensures rechained { Rechained (map.now.times.opened.records.counts.junctions + map.now.times.opened.records.counts.junctions) work.old head work.new result }
 {
-    let Some(to) = lead_of(v, t, n, marks, s, e) else {
+    let Some(to) = lead_of(map, marks, s, e) else {
         return head;
     };
     let at = STATE * to;
     if work[at] < SETTLED {
-        let later = arrival + edge_duration(v, digest, e, arrival);
+        let later = arrival + map.times.edge_duration(e, arrival);
         return offer_to(work, head, to, later, e as u64 + 1);
     }
     head
@@ -104,75 +98,46 @@ fn offer_turn(
 
 // All offers of state s, which is settled at `arrival`: the turn, then its own edges in rising order.
 fn offer_arcs(
-    v: &[u8],
-    t: Tables,
-    c: Counts,
-    first: &[u16],
-    next: &[u16],
-    digest: &[u32],
+    map: &Roadmap<'_>,
     marks: &[bool],
     s: usize,
     arrival: u64,
     head: usize,
     work: &mut [u64],
 ) -> usize
-    requires ready { Ready v.now t c.junctions marks.now s }
-    requires digest { Digest (volume_of v.now) digest.now }
-    requires counted { Counted (volume_of v.now) c }
-    requires linked { Linked (volume_of v.now) first.now next.now }
-    requires arrival_bound { (arrival < 2 ^ 62) × (8 * c.junctions ≤ length work.old) }
-    ensures does { Does (volume_of v.now) marks.now work.old work.new (λ W. relax W s arrival W.arcs) }
-    ensures rechained { Rechained (c.junctions + c.junctions) work.old head work.new result }
+    requires s_bound { (map.now.times.opened.records.counts.junctions ≤ length marks.now) × (s < map.now.times.opened.records.counts.junctions + map.now.times.opened.records.counts.junctions) }
+    requires arrival_bound { (arrival < 2 ^ 62) × (8 * map.now.times.opened.records.counts.junctions ≤ length work.old) }
+    ensures does { Does (volume_of map.now.times.opened.records.bytes.now) marks.now work.old work.new (λ W. relax W s arrival W.arcs) }
+    ensures rechained { Rechained (map.now.times.opened.records.counts.junctions + map.now.times.opened.records.counts.junctions) work.old head work.new result }
 {
-    let n = c.junctions;
-    let edges = c.edges;
-    let u = place(n, s);
-    let mut front = offer_turn(n, marks, s, arrival, head, work);
-    let mut e = first[u] as usize;
-    while e < edges {
-        front = offer_edge(v, t, digest, n, marks, s, e, arrival, front, work);
-        e = next[e] as usize;
+    let counts = map.times.opened.records.counts;
+    let u = place(counts.junctions, s);
+    let mut front = offer_turn(counts.junctions, marks, s, arrival, head, work);
+    let mut e = map.first(u);
+    while e < counts.edges {
+        front = offer_edge(map, marks, s, e, arrival, front, work);
+        e = map.next(e);
     }
     front
 }
 
 // One unit: settles the state that waits, and makes its offers.
 pub fn settle_state(
-    v: &[u8],
-    t: Tables,
-    c: Counts,
-    first: &[u16],
-    next: &[u16],
-    digest: &[u32],
+    map: &Roadmap<'_>,
     marks: &[bool],
     waiting: Waiting,
     head: usize,
     work: &mut [u64],
 ) -> usize
-    requires ready { Ready v.now t c.junctions marks.now waiting.state }
-    requires digest { Digest (volume_of v.now) digest.now }
-    requires counted { Counted (volume_of v.now) c }
-    requires linked { Linked (volume_of v.now) first.now next.now }
-    requires arrival_bound { (waiting.arrival < 2 ^ 62) × (8 * c.junctions ≤ length work.old) }
+    requires s_bound { (map.now.times.opened.records.counts.junctions ≤ length marks.now) × (waiting.state < map.now.times.opened.records.counts.junctions + map.now.times.opened.records.counts.junctions) }
+    requires arrival_bound { (waiting.arrival < 2 ^ 62) × (8 * map.now.times.opened.records.counts.junctions ≤ length work.old) }
     requires waits_at { WaitsAt work.old waiting.state }
-    requires chained { Chained (c.junctions + c.junctions) work.old head }
-    requires precedes { Precedes (c.junctions + c.junctions) work.old head waiting.before waiting.state }
-    ensures does { Does (volume_of v.now) marks.now work.old work.new (λ W. settle W waiting.state waiting.arrival) }
-    ensures chained_2 { Chained (c.junctions + c.junctions) work.new result }
+    requires chained { Chained (map.now.times.opened.records.counts.junctions + map.now.times.opened.records.counts.junctions) work.old head }
+    requires precedes { Precedes (map.now.times.opened.records.counts.junctions + map.now.times.opened.records.counts.junctions) work.old head waiting.before waiting.state }
+    ensures does { Does (volume_of map.now.times.opened.records.bytes.now) marks.now work.old work.new (λ W. settle W waiting.state waiting.arrival) }
+    ensures chained_2 { Chained (map.now.times.opened.records.counts.junctions + map.now.times.opened.records.counts.junctions) work.new result }
 {
-    let n = c.junctions;
+    let n = map.times.opened.records.counts.junctions;
     let front = take_out(work, n + n, head, waiting.state, waiting.before);
-    offer_arcs(
-        v,
-        t,
-        c,
-        first,
-        next,
-        digest,
-        marks,
-        waiting.state,
-        waiting.arrival,
-        front,
-        work,
-    )
+    offer_arcs(map, marks, waiting.state, waiting.arrival, front, work)
 }

@@ -4,10 +4,7 @@
 #![tactic(auto)]
 
 ghost use Rattle.std.specs.Prelude.{◌≡◌, ◌+◌, ◌^◌, ◌≤◌, ◌<◌, length};
-ghost use Rattle.records.specs.Format.{volume_of, Counted, Few, Laid};
-ghost use Rattle.records.specs.Index.{Linked};
-ghost use Rattle.travel.specs.Digest.{Digest};
-ghost use Rattle.volume.specs.Sound.{Sound};
+ghost use Rattle.records.specs.Format.{volume_of};
 ghost use Rattle.settle.specs.Marked.{MarksBelow};
 ghost use Rattle.settle.specs.Outcome.{Ran};
 ghost use Rattle.settle.specs.Units.{Question};
@@ -18,8 +15,9 @@ use crate::labels::{STATE, offer_to};
 use crate::marks::mark;
 use crate::seen::{View, see, upper};
 use records::index::index_edges;
-use records::tables::{Counts, Tables};
-use travel::digest::{LONG, SHORT, make_digest};
+use travel::digest::{LONG, SHORT, Timetable, make_digest};
+use travel::roadmap::Roadmap;
+use volume::sound::Opened;
 
 pub mod arcs;
 pub mod labels;
@@ -53,25 +51,12 @@ pub fn clear(work: &mut [u64], n: usize)
 }
 
 // The rule with the edges indexed and the junctions marked. Before each unit the tests run in the document's order.
-fn units(
-    v: &[u8],
-    t: Tables,
-    c: Counts,
-    first: &[u16],
-    next: &[u16],
-    digest: &[u32],
-    marks: &[bool],
-    query: Query,
-    work: &mut [u64],
-) -> Outcome
-    requires laid { (Laid v.now t) × Counted (volume_of v.now) c × Sound (volume_of v.now) }
-    requires digest { Digest (volume_of v.now) digest.now }
-    requires linked { Linked (volume_of v.now) first.now next.now }
-    requires junctions_in_bounds { (c.junctions ≤ length marks.now) × MarksBelow (volume_of v.now) query.to (volume_of v.now).junctions marks.now }
-    requires question { Question (volume_of v.now) query.from query.to query.departure query.budget work.old }
-    ensures { Ran (volume_of v.now) query.from query.to query.departure query.budget work.old work.new result }
+fn units(map: &Roadmap<'_>, marks: &[bool], query: Query, work: &mut [u64]) -> Outcome
+    requires junctions_in_bounds { (map.now.times.opened.records.counts.junctions ≤ length marks.now) × MarksBelow (volume_of map.now.times.opened.records.bytes.now) query.to (volume_of map.now.times.opened.records.bytes.now).junctions marks.now }
+    requires question { Question (volume_of map.now.times.opened.records.bytes.now) query.from query.to query.departure query.budget work.old }
+    ensures { Ran (volume_of map.now.times.opened.records.bytes.now) query.from query.to query.departure query.budget work.old work.new result }
 {
-    let n = c.junctions;
+    let n = map.times.opened.records.counts.junctions;
     let states = n + n;
     let home = n + query.to;
     clear(work, STATE * states);
@@ -87,7 +72,7 @@ fn units(
                 if used == query.budget {
                     return Outcome::Open(waiting.arrival, upper(work, home), used);
                 }
-                head = settle_state(v, t, c, first, next, digest, marks, waiting, head, work);
+                head = settle_state(map, marks, waiting, head, work);
                 used += 1;
             }
         }
@@ -96,43 +81,40 @@ fn units(
 
 // Runs the rule with room for so many edges in the index, and for so many edges and roads, and one place more, in the digest.
 fn run_with<const INDEX: usize, const DIGEST: usize>(
-    v: &[u8],
-    t: Tables,
-    c: Counts,
+    opened: &Opened<'_>,
     query: Query,
     work: &mut [u64],
 ) -> Outcome
-    requires laid { Laid v.now t }
-    requires counted { Counted (volume_of v.now) c }
-    requires few { Few c }
-    requires sound { Sound (volume_of v.now) }
-    requires edges_in_bounds { (c.edges ≤ INDEX) × (c.edges + c.roads < DIGEST) }
+    requires edges_in_bounds { (opened.now.records.counts.edges ≤ INDEX) × (opened.now.records.counts.edges + opened.now.records.counts.roads < DIGEST) }
     requires lists_fit { (INDEX < 2 ^ 32) × (DIGEST < 2 ^ 32) }
-    requires question { Question (volume_of v.now) query.from query.to query.departure query.budget work.old }
-    ensures { Ran (volume_of v.now) query.from query.to query.departure query.budget work.old work.new result }
+    requires question { Question (volume_of opened.now.records.bytes.now) query.from query.to query.departure query.budget work.old }
+    ensures { Ran (volume_of opened.now.records.bytes.now) query.from query.to query.departure query.budget work.old work.new result }
 {
     let mut first = [0u16; 1024];
     let mut next = [0u16; INDEX];
     let mut digest = [0u32; DIGEST];
     let mut marks = [false; 1024];
-    index_edges(v, t, c, &mut first, &mut next);
-    make_digest(v, t, c, &mut digest);
-    mark(v, t, c, &first, &next, query.to, &mut marks);
-    units(v, t, c, &first, &next, &digest, &marks, query, work)
+    index_edges(&opened.records, &mut first, &mut next);
+    make_digest(opened, &mut digest);
+    let times = Timetable {
+        opened: *opened,
+        digest: &digest,
+    };
+    let map = Roadmap::new(times, &first, &next);
+    mark(&map, query.to, &mut marks);
+    units(&map, &marks, query, work)
 }
 
 // Runs the rule on a question: what it ends with, and the labels in the first 8 N work numbers, whatever they held before. Few
 // roads and edges get short lists for the index and the digest.
-pub fn run(v: &[u8], t: Tables, c: Counts, query: Query, work: &mut [u64]) -> Outcome
-    requires laid { Laid v.now t }
-    requires counted { Counted (volume_of v.now) c }
-    requires few { Few c }
-    requires sound { Sound (volume_of v.now) }
-    requires question { Question (volume_of v.now) query.from query.to query.departure query.budget work.old }
-    ensures { Ran (volume_of v.now) query.from query.to query.departure query.budget work.old work.new result }
+pub fn run(opened: &Opened<'_>, query: Query, work: &mut [u64]) -> Outcome
+    requires { Question (volume_of opened.now.records.bytes.now) query.from query.to query.departure query.budget work.old }
+    ensures { Ran (volume_of opened.now.records.bytes.now) query.from query.to query.departure query.budget work.old work.new result }
 {
-    if c.edges + c.roads < SHORT {
-        return run_with::<SHORT, SHORT>(v, t, c, query, work);
+    let counts = opened.records.counts;
+    if counts.edges + counts.roads < SHORT {
+        run_with::<SHORT, SHORT>(opened, query, work)
+    } else {
+        run_with::<16384, LONG>(opened, query, work)
     }
-    run_with::<16384, LONG>(v, t, c, query, work)
 }

@@ -7,7 +7,7 @@ use borrow.Author.Rules.{rules}
 use Rattle.settle.specs.Edges.{on_walk, walk_none}
 use Rattle.settle.specs.Marked.{falls, falls_away, falls_high, falls_unmarked, mark_destination, mark_above, mark_missing}
 use Rattle.travel.specs.Network.{network_of}
-use Rattle.records.specs.Index.{next_low, link_next}
+use Rattle.records.specs.Index.{next_low, next_from}
 use Rattle.records.specs.Format.{volume_of}
 use Rattle.theory.specs.Marks.{marked}
 use Rattle.settle.proofs.marks.mark_of.Goals as goal
@@ -16,21 +16,21 @@ use Rattle.settle.proofs.marks.mark_of.Goals.{then-w-u+else-marks-w, else-w-u}
 pub returns-then-u-to : goal.returns-then-u-to
 returns-then-u-to c =
     let a = c.args in
-    mark_destination (volume_of a.v.now) a.to a.u c.if-u-to.true
+    mark_destination (volume_of a.map.now.times.opened.records.bytes.now) a.to a.u c.if-u-to.true
 
 pub loop-e-init : goal.loop-e-init
 loop-e-init c =
-    let vol = volume_of c.args.v.now in
+    let vol = volume_of c.args.map.now.times.opened.records.bytes.now in
     let u = c.args.u in
-    let is = c.requires.linked.firsts u c.requires.edges_value.1 in (
+    let is = c.first-e.ensures in (
       on_walk vol u 0 _ (omega arith) is,
       walk_none vol u 0 _ (falls vol c.args.to u) (omega arith) is (falls_away vol c.args.to u) (λ j h. absurd (omega arith)),
     )
 
 pub returns-then-marks-w : goal.returns-then-marks-w
 returns-then-marks-w c =
-    let vol = volume_of c.args.v.now in
-    let to = c.edge_to-w.ensures.0 in
+    let vol = volume_of c.args.map.now.times.opened.records.bytes.now in
+    let to = c.edge-w.ensures.to in
     let lt : c.loop-e.e < vol.edges = search rules in
     let below = c.if-w-u.true in
     mark_above vol c.args.to c.args.u c.loop-e.e lt (c.loop-e.invariant.0.begins lt) (omega arith)
@@ -38,22 +38,22 @@ returns-then-marks-w c =
 
 pub loop-e-smaller : goal.loop-e-smaller
 loop-e-smaller c =
-    let vol = volume_of c.args.v.now in
+    let vol = volume_of c.args.map.now.times.opened.records.bytes.now in
     let lt : c.loop-e.e < vol.edges = search rules in
-    let e = link_next vol _ _ c.args.u c.loop-e.e c.requires.linked lt (c.loop-e.invariant.0.begins lt) c.requires.edges_value.1 in
+    let e = (c.next-e.ensures ∙ ap (λ (w : ℕ). next_from vol w (c.loop-e.e + 1)) (c.loop-e.invariant.0.begins lt)) in
     let low = next_low vol c.args.u (c.loop-e.e + 1) (omega arith) in
     omega arith
 
 pub loop-e-preserved : goal.loop-e-preserved
 loop-e-preserved c =
-    let vol = volume_of c.args.v.now in
+    let vol = volume_of c.args.map.now.times.opened.records.bytes.now in
     let d = c.args.to in
     let u = c.args.u in
     let e = c.loop-e.e in
     let lt : e < vol.edges = search rules in
     let from = c.loop-e.invariant.0.begins lt in
-    let to = c.edge_to-w.ensures.0 in
-    let is = link_next vol _ _ u e c.requires.linked lt from c.requires.edges_value.1 in
+    let to = c.edge-w.ensures.to in
+    let is = (c.next-e.ensures ∙ ap (λ (w : ℕ). next_from vol w (e + 1)) from) in
     let here : falls vol d u e ≡ false = elim c.if-w-u.branch [
       | then-w-u+else-marks-w w ↦ falls_unmarked vol d u e from (omega (arith, w.if-w-u.true)) (sym (ap (marked (network_of vol) d) to) ∙ sym (c.requires.marks_below _ w.if-w-u.true) ∙ w.if-marks-w.false)
       | else-w-u w ↦ falls_high vol d u e from (omega (arith, w.if-w-u.false))
@@ -64,4 +64,4 @@ loop-e-preserved c =
 
 pub returns : goal.returns
 returns c =
-    mark_missing (volume_of c.args.v.now) c.args.to c.args.u c.if-u-to.false (λ e h. c.loop-e.invariant.1 e (omega arith))
+    mark_missing (volume_of c.args.map.now.times.opened.records.bytes.now) c.args.to c.args.u c.if-u-to.false (λ e h. c.loop-e.invariant.1 e (omega arith))

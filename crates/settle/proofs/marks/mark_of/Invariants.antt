@@ -7,7 +7,7 @@ use Rattle.records.specs.Format.{volume_of}
 use Rattle.settle.proofs.marks.mark_of.Given as goal
 
 abbrev pub invariant-loop-e : goal.invariant-loop-e
-invariant-loop-e l = OnWalk (volume_of l.v) l.u l.e × ((j : ℕ) → j < l.e → falls (volume_of l.v) l.to l.u j ≡ false)
+invariant-loop-e l = OnWalk (volume_of l.map.times.opened.records.bytes.now) l.u l.e × ((j : ℕ) → j < l.e → falls (volume_of l.map.times.opened.records.bytes.now) l.to l.u j ≡ false)
 
 abbrev pub decreases-loop-e : goal.decreases-loop-e
-decreases-loop-e l = l.edges - l.e
+decreases-loop-e l = (volume_of l.map.times.opened.records.bytes.now).edges - l.e
