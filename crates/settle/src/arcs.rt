@@ -50,6 +50,7 @@ fn lead_of(v: &[u8], t: Tables, n: usize, marks: &[bool], s: usize, e: usize) ->
 
 // Offers edge e from state s, which is settled at `arrival`. The time of an edge to a settled state is not asked. Returns the first of the
 // chain, as every function here that makes offers does.
+#[tactic(auto, using(crate::specs::Arcs::arc_steps))]
 fn offer_edge(
     v: &[u8],
     t: Tables,
@@ -103,6 +104,7 @@ fn offer_turn(
 }
 
 // All offers of state s, which is settled at `arrival`: the turn, then its own edges in rising order.
+#[tactic(auto, using(crate::specs::Arcs::place_below))]
 fn offer_arcs(
     v: &[u8],
     t: Tables,

@@ -8,18 +8,6 @@ use Rattle.records.specs.Index.{next_low, link_next}
 use Rattle.records.specs.Format.{volume_of}
 use Rattle.settle.proofs.arcs.offer_arcs.Goals as goal
 
-pub offset_bounds-first-u : goal.offset_bounds-first-u
-offset_bounds-first-u c =
-    let below = place_below c.args.c.junctions c.args.s c.requires.ready.state in
-    let is = c.place-u.ensures in
-    omega (arith, c.requires.ready.count, c.requires.ready.sound.junctions_few)
-
-pub bounds-first-u : goal.bounds-first-u
-bounds-first-u c =
-    let below = place_below c.args.c.junctions c.args.s c.requires.ready.state in
-    let is = c.place-u.ensures in
-    omega (arith, c.requires.ready.count, c.requires.linked.firsts_room)
-
 pub loop-e-init : goal.loop-e-init
 loop-e-init c =
     let p = c.place-u in
