@@ -17,7 +17,7 @@ use Rattle.records.specs.declared.tables.Tables.{Tables}
 use Rattle.travel.specs.Network.{network_of, arrival, Enters}
 use Rattle.travel.specs.Halves.{edge_short}
 use Rattle.settle.specs.Work.{label_of, label_at, labels, labels_in, Holds, holds_same, holds_as}
-use Rattle.settle.specs.Offered.{offer_to, put_again, holds_offer}
+use Rattle.settle.specs.Offered.{offer_to, put_again, holds_offer, rechained_offer}
 use Rattle.settle.specs.Marked.{MarksBelow}
 
 -- the rule's states and arcs on a volume, where d is the destination
@@ -221,6 +221,9 @@ module _ (W : Web) (S s a k : ℕ) (w : List ℕ) where
         rw (is, i)
         (holds_as S w (offer_to w h to b k) (put (labels S w) to (offered (labels S w to) b k)) (offer W s a k (labels S w)) (sym (is_offer b (sym q)))
         (holds_offer S w h to b k inside room))
+
+-- an arc that changes nothing, and that the chain stands after an offer
+pub ruleset arc_steps = (arc_skipped, arc_settled, rechained_offer)
 
 -- an edge entered before 2 ^ 62 can be asked for its time
 pub enters_soon : (vol : Volume) → Sound vol → (e a : ℕ) → e < vol.edges → a < 2 ^ 62 → Enters vol e a

@@ -245,3 +245,6 @@ module _ (S : ℕ) (w : List ℕ) (h s : ℕ) (l : s < S) (room : 4 * S ≤ leng
       (later_out S v b s (omega (arith, length-set w (4 * s) 2)) l
       (get_or-set_other w (4 * s) (4 * b + 3) 2 0 (omega arith) ∙ q.1)
       h C.chain C.once on (C.all b lb q.0))
+
+-- both
+pub ruleset out_cases = (chained_first_out, chained_later_out)

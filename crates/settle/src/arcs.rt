@@ -48,6 +48,7 @@ fn lead_of(map: &Roadmap<'_>, marks: &[bool], s: usize, e: usize) -> Option<usiz
 
 // Offers edge e from state s, which is settled at `arrival`. The time of an edge to a settled state is not asked. Returns the first of the
 // chain, as every function here that makes offers does.
+#[tactic(auto, using(crate::specs::Arcs::arc_steps))]
 fn offer_edge(
     map: &Roadmap<'_>,
     marks: &[bool],
@@ -97,6 +98,7 @@ fn offer_turn(
 }
 
 // All offers of state s, which is settled at `arrival`: the turn, then its own edges in rising order.
+#[tactic(auto, using(crate::specs::Arcs::place_below))]
 fn offer_arcs(
     map: &Roadmap<'_>,
     marks: &[bool],

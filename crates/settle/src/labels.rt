@@ -59,6 +59,7 @@ pub fn offer_to(work: &mut [u64], head: usize, s: usize, arrival: u64, arc: u64)
 }
 
 // Settles state s, which waits, and takes it out of the chain, where it comes after `before`. Returns the first of the chain.
+#[tactic(auto, using(crate::specs::Chain::out_cases))]
 pub fn take_out(work: &mut [u64], states: usize, head: usize, s: usize, before: usize) -> usize
     requires s_lt_states { (s < states) × (4 * states ≤ length work.old) }
     requires waits_at { WaitsAt work.old s }

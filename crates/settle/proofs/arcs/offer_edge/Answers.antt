@@ -2,16 +2,9 @@ use Prim.Native.Nat.{suc, ◌+◌}
 use mathlib.Core.Path.{sym, ◌∙◌}
 use native.Mathlib.Numerals.{add-one}
 use native.Mathlib.Omega.{arith}
-use Rattle.settle.specs.Arcs.{web_of, states_of, lead_below, arc_skipped, arc_settled, arc_offered, arrives_soon}
-use Rattle.settle.specs.Offered.{rechained_offer}
+use Rattle.settle.specs.Arcs.{web_of, states_of, lead_below, arc_offered, arrives_soon}
 use Rattle.records.specs.Format.{volume_of}
 use Rattle.settle.proofs.arcs.offer_edge.Goals as goal
-
-pub returns-in_default-clause-does : goal.returns-in_default-clause-does
-returns-in_default-clause-does c =
-    let vol = volume_of c.args.map.now.times.opened.records.bytes.now in
-    λ d m. arc_skipped (web_of vol d) (states_of vol) c.args.s c.args.arrival (suc c.args.e) c.args.work.now
-    (sym c.in_default.is ∙ c.lead_of.ensures.by_index d m)
 
 pub overflow_add-later : goal.overflow_add-later
 overflow_add-later c =
@@ -27,19 +20,3 @@ returns-then-work-at-lt-SETTLED-clause-does c =
     λ d m. arc_offered (web_of vol d) (states_of vol) c.args.s c.args.arrival (suc c.args.e) c.args.work.now _
     (sym c.in-Some.is ∙ c.lead_of.ensures.by_index d m) (omega (arith, R.counted.junctions)) c.args.head _ _ _
     c.edge_duration.ensures (add-one c.args.e) (omega (arith, R.counted.junctions, c.requires.arrival_bound.1)) o.ensures.work_after
-
-pub returns-then-work-at-lt-SETTLED-clause-rechained : goal.returns-then-work-at-lt-SETTLED-clause-rechained
-returns-then-work-at-lt-SETTLED-clause-rechained c =
-    let vol = volume_of c.args.map.now.times.opened.records.bytes.now in
-    let R = c.args.map.now.times.opened.records in
-    let below = lead_below (c.args.map.now.times.opened.records.counts.junctions + c.args.map.now.times.opened.records.counts.junctions) _ _ c.in-Some.is c.lead_of.ensures.leads_below in
-    let o = c.offer_to in
-    rechained_offer (c.args.map.now.times.opened.records.counts.junctions + c.args.map.now.times.opened.records.counts.junctions) c.args.work.now c.args.head _ _ _ below (omega (arith, c.requires.arrival_bound.1)) _ _ o.ensures.work_after o.ensures.value
-
-pub returns-clause-does : goal.returns-clause-does
-returns-clause-does c =
-    let vol = volume_of c.args.map.now.times.opened.records.bytes.now in
-    let R = c.args.map.now.times.opened.records in
-    let below = lead_below (c.args.map.now.times.opened.records.counts.junctions + c.args.map.now.times.opened.records.counts.junctions) _ _ c.in-Some.is c.lead_of.ensures.leads_below in
-    λ d m. arc_settled (web_of vol d) (states_of vol) c.args.s c.args.arrival (suc c.args.e) c.args.work.now _
-    (sym c.in-Some.is ∙ c.lead_of.ensures.by_index d m) (omega (arith, R.counted.junctions)) c.if-work-at-lt-SETTLED.false

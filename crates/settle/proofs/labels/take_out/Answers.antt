@@ -1,6 +1,5 @@
 use Prim.Native.Nat.{◌*◌}
 use lib.ListN.{set}
-use Rattle.settle.specs.Chain.{chained_first_out, chained_later_out}
 use Rattle.settle.specs.Walk.{holds_settled}
 use Rattle.settle.specs.Work.{holds_then, holds_spare}
 use Rattle.theory.specs.Settling.{Table}
@@ -13,20 +12,8 @@ returns-then-before-states-clause-holds c =
     holds_then a.states w (set w (4 * a.s) 2) _ _ (λ (L : Table). L) (holds_settled a.states w a.s c.requires.s_lt_states.0 c.requires.s_lt_states.1 c.requires.waits_at)
     (holds_spare a.states (set w (4 * a.s) 2) a.before _ c.if-before-states.true)
 
-pub returns-then-before-states-clause-chained_2 : goal.returns-then-before-states-clause-chained_2
-returns-then-before-states-clause-chained_2 c =
-    let a = c.args in
-    let w = a.work.now in
-    chained_later_out a.states w a.head a.s c.requires.s_lt_states.0 c.requires.s_lt_states.1 c.requires.chained a.before c.if-before-states.true c.requires.precedes
-
 pub returns-clause-holds : goal.returns-clause-holds
 returns-clause-holds c =
     let a = c.args in
     let w = a.work.now in
     holds_settled a.states w a.s c.requires.s_lt_states.0 c.requires.s_lt_states.1 c.requires.waits_at
-
-pub returns-clause-chained_2 : goal.returns-clause-chained_2
-returns-clause-chained_2 c =
-    let a = c.args in
-    let w = a.work.now in
-    chained_first_out a.states w a.head a.s c.requires.s_lt_states.0 c.requires.s_lt_states.1 c.requires.chained a.before c.if-before-states.false c.requires.precedes
