@@ -1,7 +1,7 @@
 -- Refusal 10 never occurs: a unit adds at most one edge to an arrival, so with a 32-bit departure and budget every arrival that the rule
 -- answers is far below 2 ^ 64. So the code tests no sum, and the definition of the answer says what document 01 says.
 use Prim.Native.Nat.{ℕ, zero, suc, ◌+◌, ◌*◌, ◌^◌, ◌≤◌, ◌<◌}
-use Rattle.std.specs.Prelude.{◌≡◌, refl, Bool, true, false, leb, length}
+use Rattle.std.specs.Prelude.{◌≡◌, refl, Bool, true, false, leb, length, Ok, Err}
 use Rattle.std.proofs.Common.{ap, ◌∙◌, arith, lt-ltb, le-leb}
 use Rattle.block.specs.Choose.{choose, choose_yes, both_yes}
 use Rattle.theory.specs.Settling as Rule
@@ -19,7 +19,8 @@ use Rattle.travel.specs.Halves.{edge_short}
 use Rattle.settle.specs.Units.{one_unit}
 use Rattle.search.specs.Path.{path_of}
 use Rattle.search.specs.Answer.{upper_fits, told, path_told, ruled, number}
-use Rattle.search.specs.declared.Answer.TheVariants.{Closed, Refused}
+use Rattle.search.specs.declared.Answer.TheVariants.{Closed}
+use Rattle.block.specs.declared.refusal.Refusal.TheVariants.{Path}
 
 -- every arrival in the table is at most m
 abbrev By : Table → ℕ → Type 0
@@ -116,7 +117,7 @@ told_never_late vol x room m (closed a n es) f h = rw (lt-ltb a (2 ^ 64) (omega 
     k : ℕ
     k = length (path_of vol es x)
 
-    go : (t : Bool) → number (choose t (Closed a n k) (Refused 9 k)) ≤ 9
+    go : (t : Bool) → number (choose t (Ok (Closed a n k)) (Err (Path k))) ≤ 9
     go true = omega arith
     go false = omega arith
 told_never_late vol x room m (open_from l e n) f h = omega (arith, told_answers vol x room m (open_from l e n) f h (omega arith))

@@ -1,7 +1,7 @@
 -- What the search promises, read first. `Searched` of Answer is the contract of the code, so each promise speaks of what `search` answers
 -- for the bytes v and leaves in the lists that it was lent. r is the answer, `number r` its number in the document: 0 where it is not
 -- refused. `said r` is its window in the theory's words; `network v` is the network that the bytes hold.
-use Rattle.std.specs.Prelude.{ℕ, ◌+◌, ◌*◌, ◌^◌, ◌≤◌, ◌<◌, ◌≡◌, Option, List, length, take, drop}
+use Rattle.std.specs.Prelude.{ℕ, ◌+◌, ◌*◌, ◌^◌, ◌≤◌, ◌<◌, ◌≡◌, Option, List, length, take, drop, Ok, Err}
 use Rattle.std.proofs.Math.Path.{refl}
 use Rattle.std.proofs.Common.{ap, sym, ◌∙◌, arith, take_at, drop_at}
 use Rattle.std.proofs.lemmas.Bool.{lt-leb}
@@ -16,18 +16,19 @@ use Rattle.records.specs.Format.{volume_of}
 use Rattle.volume.specs.Open.{open_of}
 use Rattle.volume.specs.Opened.{opened}
 use Rattle.records.specs.declared.tables.Counts.{Counts}
-use Rattle.volume.specs.declared.Opening.TheVariants.{Opened}
+use Rattle.block.specs.declared.refusal.Refusal.{Refusal}
+use Rattle.block.specs.declared.refusal.Refusal.TheVariants.{Path}
+use Rattle.block.specs.Refusal.{number_of}
 use Rattle.travel.specs.Network.{network_of, sound_network}
 use Rattle.settle.specs.Work.{cleared}
 use Rattle.settle.specs.Units.{Question}
 use Rattle.settle.specs.Outcome.{upper_of}
 use Rattle.search.specs.Path.{path_of}
-use Rattle.search.specs.Answer.{path_told, ruled, answer_of, work_after, path_after, Searched, number}
+use Rattle.search.specs.Answer.{Reply, path_told, ruled, answer_of, work_after, path_after, Searched, number}
 use Rattle.search.specs.Steps.{early_keeps, rule_answers}
 use Rattle.search.specs.Clock.{answer_by_lem, told_answers, told_never_late}
 use Rattle.search.specs.Tells.{said, Tells, plainly, bare, Given, Comes, ruled_so, refused_so, comes, given, tells_plainly, said_is, below_bare, bare_tops, finished_bare, bare_finished, used_bare, narrows_bare}
-use Rattle.search.specs.declared.Answer.{Answer}
-use Rattle.search.specs.declared.Answer.TheVariants.{Closed, NoWay, Open, Refused}
+use Rattle.search.specs.declared.Answer.TheVariants.{Closed, NoWay, Open}
 
 -- the network that the bytes hold
 abbrev pub network : List ℕ → Network
@@ -37,28 +38,28 @@ network v = network_of (volume_of v)
 
 module _ {v : List ℕ} {from to x b : ℕ} {work path : List ℕ} where
   -- any two outcomes that the contract allows are equal
-  pub only_one_answer : {r s : Answer} {w u p q : List ℕ} → Searched v from to x b work path r w p → Searched v from to x b work path s u q
+  pub only_one_answer : {r s : Reply} {w u p q : List ℕ} → Searched v from to x b work path r w p → Searched v from to x b work path s u q
       → (r ≡ s) × (w ≡ u) × (p ≡ q)
   only_one_answer {r} {s} {w} {u} {p} {q} H K =
       let e = H.answers ∙ sym K.answers in (
         e,
-        H.clears ∙ ap (λ (a : Answer). work_after a (8 * (volume_of v).junctions) work) e ∙ sym K.clears,
-        H.writes ∙ ap (λ (a : Answer). path_after a (path_told (volume_of v) x (ruled (volume_of v) from to x b)) path) e ∙ sym K.writes,
+        H.clears ∙ ap (λ (a : Reply). work_after a (8 * (volume_of v).junctions) work) e ∙ sym K.clears,
+        H.writes ∙ ap (λ (a : Reply). path_after a (path_told (volume_of v) x (ruled (volume_of v) from to x b)) path) e ∙ sym K.writes,
       )
 
   -- a refusal has one of the document's numbers
-  pub refusal_numbered : {k place : ℕ} {w p : List ℕ} → Searched v from to x b work path (Refused k place) w p → (1 ≤ k) × (k ≤ 10)
-  refusal_numbered {k} {place} H = go (rw H.answers (comes v from to x b (length work) (length path)))
+  pub refusal_numbered : {why : Refusal} {w p : List ℕ} → Searched v from to x b work path (Err why) w p → (1 ≤ number_of why) × (number_of why ≤ 10)
+  refusal_numbered {why} H = go (rw H.answers (comes v from to x b (length work) (length path)))
     where
-      go : Comes (volume_of v) from to x b (length path) (Refused k place) → (1 ≤ k) × (k ≤ 10)
+      go : Comes (volume_of v) from to x b (length path) (Err why) → (1 ≤ number_of why) × (number_of why ≤ 10)
       go (ruled_so g) = (omega (arith, g.tells.0), g.tells.1)
       go (refused_so l h) = (l, omega arith)
 
   -- but 10 is never given: the question's departure and budget are 32-bit numbers
-  pub clock_never : {k place : ℕ} {w p : List ℕ} → x < 2 ^ 32 → b < 2 ^ 32 → Searched v from to x b work path (Refused k place) w p → k ≤ 9
-  clock_never {k} {place} xs bs H = go (rw H.answers (comes v from to x b (length work) (length path)))
+  pub clock_never : {why : Refusal} {w p : List ℕ} → x < 2 ^ 32 → b < 2 ^ 32 → Searched v from to x b work path (Err why) w p → number_of why ≤ 9
+  clock_never {why} xs bs H = go (rw H.answers (comes v from to x b (length work) (length path)))
     where
-      go : Comes (volume_of v) from to x b (length path) (Refused k place) → k ≤ 9
+      go : Comes (volume_of v) from to x b (length path) (Err why) → number_of why ≤ 9
       go (ruled_so g) =
           let m = answer_by_lem (volume_of v) g.sound from to g.to_in x b in
           let late = told_never_late (volume_of v) x (length path) _ (ruled (volume_of v) from to x b) m (omega arith) in
@@ -66,31 +67,31 @@ module _ {v : List ℕ} {from to x b : ℕ} {work path : List ℕ} where
       go (refused_so l h) = omega arith
 
   -- 9 is given only where the path has more roads than room, at the roads needed
-  pub path_refused : {place : ℕ} {w p : List ℕ} → Searched v from to x b work path (Refused 9 place) w p
+  pub path_refused : {place : ℕ} {w p : List ℕ} → Searched v from to x b work path (Err (Path place)) w p
       → (place ≡ length (path_told (volume_of v) x (ruled (volume_of v) from to x b))) × (length path < place)
   path_refused {place} H = go (rw H.answers (comes v from to x b (length work) (length path)))
     where
-      go : Comes (volume_of v) from to x b (length path) (Refused 9 place)
+      go : Comes (volume_of v) from to x b (length path) (Err (Path place))
           → (place ≡ length (path_told (volume_of v) x (ruled (volume_of v) from to x b))) × (length path < place)
       go (ruled_so g) = g.tells.2 refl
       go (refused_so l h) = absurd (omega arith)
 
   -- on a refusal the path list is as it was
-  pub refusal_keeps_path : {k place : ℕ} {w p : List ℕ} → Searched v from to x b work path (Refused k place) w p → p ≡ path
+  pub refusal_keeps_path : {why : Refusal} {w p : List ℕ} → Searched v from to x b work path (Err why) w p → p ≡ path
   refusal_keeps_path H = H.writes
 
   -- and on one of 1 to 8 the work area too
-  pub refusal_keeps_work : {k place : ℕ} {w p : List ℕ} → k ≤ 8 → Searched v from to x b work path (Refused k place) w p → w ≡ work
-  refusal_keeps_work {k} {place} h H = H.clears ∙ sym (early_keeps k place (8 * (volume_of v).junctions) work h)
+  pub refusal_keeps_work : {why : Refusal} {w p : List ℕ} → number_of why ≤ 8 → Searched v from to x b work path (Err why) w p → w ≡ work
+  refusal_keeps_work {why} h H = H.clears ∙ sym (early_keeps why (8 * (volume_of v).junctions) work h)
 
   -- after 9 its first 8N numbers are zero
-  pub refusal_clears_work : {k place : ℕ} {w p : List ℕ} → 9 ≤ k → Searched v from to x b work path (Refused k place) w p
+  pub refusal_clears_work : {why : Refusal} {w p : List ℕ} → 9 ≤ number_of why → Searched v from to x b work path (Err why) w p
       → w ≡ cleared work (8 * (volume_of v).junctions)
-  refusal_clears_work {k} h H = H.clears ∙ choose_no _ _ (lt-leb k 8 h)
+  refusal_clears_work {why} h H = H.clears ∙ choose_no _ _ (lt-leb (number_of why) 8 h)
 
 -- there is one for every input
 pub every_input_answered : (v : List ℕ) (from to x b : ℕ) (work path : List ℕ)
-    → (r : Answer) × (w : List ℕ) × (p : List ℕ) × Searched v from to x b work path r w p
+    → (r : Reply) × (w : List ℕ) × (p : List ℕ) × Searched v from to x b work path r w p
 every_input_answered v from to x b work path = (
   answer_of v from to x b (length work) (length path),
   work_after (answer_of v from to x b (length work) (length path)) (8 * (volume_of v).junctions) work,
@@ -99,7 +100,7 @@ every_input_answered v from to x b work path = (
 )
 
 -- a question that can be asked of a volume that opens, with room for the path, is answered: nothing is refused without its ground
-pub asked_is_answered : {v : List ℕ} {from to x b : ℕ} {work path w p : List ℕ} {r : Answer} {c : Counts} → open_of v ≡ Opened c
+pub asked_is_answered : {v : List ℕ} {from to x b : ℕ} {work path w p : List ℕ} {r : Reply} {c : Counts} → open_of v ≡ Ok c
     → Question (volume_of v) from to x b work → length (path_told (volume_of v) x (ruled (volume_of v) from to x b)) ≤ length path
     → Searched v from to x b work path r w p → number r ≡ 0
 asked_is_answered {v} {from} {to} {x} {b} {work} {path} {w} {p} {r} {c} e A room H =
@@ -113,23 +114,23 @@ asked_is_answered {v} {from} {to} {x} {b} {work} {path} {w} {p} {r} {c} e A room
 
 -- a path handed out leads from start to destination and, driven road by road from the departure, takes exactly to the arrival; it stands in
 -- the first places of the path list, one for each road, and the other places are as they were
-pub path_leads : {v : List ℕ} {from to x b a n k : ℕ} {work path w p : List ℕ} → Searched v from to x b work path (Closed a n k) w p
+pub path_leads : {v : List ℕ} {from to x b a n k : ℕ} {work path w p : List ℕ} → Searched v from to x b work path (Ok (Closed a n k)) w p
     → Drives (Roads (network v)) from x to a (take k p) × (drop k p ≡ drop k path)
 unfolding network_of
 path_leads {v} {from} {to} {x} {b} {a} {n} {k} {work} {path} {w} {p} H =
     let vol = volume_of v in
-    let g = given v from to x b (length work) (length path) (Closed a n k) H.answers refl in
+    let g = given v from to x b (length work) (length path) (Ok (Closed a n k)) H.answers refl in
     let es = g.tells.0 in
     let count = g.tells.2 in
     let roads = path_of vol es x in
-    let is = H.writes ∙ ap (λ (q : Rule.Answer). path_after (Closed a n k) (path_told vol x q) path) g.tells.1 in
+    let is = H.writes ∙ ap (λ (q : Rule.Answer). path_after (Ok (Closed a n k)) (path_told vol x q) path) g.tells.1 in
     let first : take k p ≡ roads = ap (take k) is ∙ take_at roads (drop (length roads) path) k (sym count) in
     let rest = ap (drop k) is ∙ drop_at roads (drop (length roads) path) k (sym count) ∙ ap (λ (j : ℕ). drop j path) (sym count) in
     (rw first (Theory.trail_drives (network_of vol) (sound_network vol g.sound) from to x g.from_in g.to_in b a n es g.tells.1), rest)
 
 -- On every volume that opens, full or not
 
-module _ {v : List ℕ} {from to x b : ℕ} {work path w p : List ℕ} {r : Answer} (H : Searched v from to x b work path r w p) (z : number r ≡ 0) where
+module _ {v : List ℕ} {from to x b : ℕ} {work path w p : List ℕ} {r : Reply} (H : Searched v from to x b work path r w p) (z : number r ≡ 0) where
   -- the rule's answer behind it
   behind : Given (volume_of v) from to x b (length path) r
   behind = given v from to x b (length work) (length path) r H.answers z
@@ -146,12 +147,12 @@ module _ {v : List ℕ} {from to x b : ℕ} {work path w p : List ℕ} {r : Answ
   pub work_is_cleared : w ≡ cleared work (8 * (volume_of v).junctions)
   work_is_cleared = H.clears ∙ go r z behind.tells
     where
-      go : (r : Answer) → number r ≡ 0 → Tells (volume_of v) x (length path) (ruled (volume_of v) from to x b) r
+      go : (r : Reply) → number r ≡ 0 → Tells (volume_of v) x (length path) (ruled (volume_of v) from to x b) r
           → work_after r (8 * (volume_of v).junctions) work ≡ cleared work (8 * (volume_of v).junctions)
-      go (Closed a n k) z t = refl
-      go (NoWay n) z t = refl
-      go (Open l h n) z t = refl
-      go (Refused k place) z t = absurd (omega arith)
+      go (Ok (Closed a n k)) z t = refl
+      go (Ok (NoWay n)) z t = refl
+      go (Ok (Open l h n)) z t = refl
+      go (Err why) z t = absurd (omega arith)
 
   -- units used never exceed the budget, nor 2N - 1
   pub units_used : (used (said r) ≤ b) × (used (said r) < (volume_of v).junctions + (volume_of v).junctions)
@@ -180,7 +181,7 @@ module _ {v : List ℕ} {from to x b : ℕ} {work path w p : List ℕ} {r : Answ
 widest : (q : Rule.Answer) → Narrows (open_from 0 none 0) q
 widest q = record { units = omega arith; lower = λ y h. omega arith; upper = λ y t. absurd t; stays = λ f. absurd f }
 
-module _ {v : List ℕ} {from to x b c : ℕ} {work path w p workMore pathMore u q : List ℕ} {r s : Answer} (H : Searched v from to x b work path r w p) (K : Searched v from to x c workMore pathMore s u q) (more : b ≤ c) (z : number s ≡ 0) where
+module _ {v : List ℕ} {from to x b c : ℕ} {work path w p workMore pathMore u q : List ℕ} {r s : Reply} (H : Searched v from to x b work path r w p) (K : Searched v from to x c workMore pathMore s u q) (more : b ≤ c) (z : number s ≡ 0) where
   -- the rule's own window
   rule_narrows : number r ≡ 0 → Narrows (ruled (volume_of v) from to x b) (ruled (volume_of v) from to x c)
   unfolding network_of
@@ -193,11 +194,11 @@ module _ {v : List ℕ} {from to x b c : ℕ} {work path w p workMore pathMore u
       narrows : number r ≡ 0 → Narrows (said r) (said s)
       narrows y = rw (window H y, window K z) (narrows_bare (ruled (volume_of v) from to x b) (ruled (volume_of v) from to x c) (rule_narrows y))
 
-      go : (a : Answer) → r ≡ a → Narrows (said r) (said s)
-      go (Closed a n k) e = narrows (ap number e)
-      go (NoWay n) e = narrows (ap number e)
-      go (Open l h n) e = narrows (ap number e)
-      go (Refused k place) e = rw e (widest (said s))
+      go : (a : Reply) → r ≡ a → Narrows (said r) (said s)
+      go (Ok (Closed a n k)) e = narrows (ap number e)
+      go (Ok (NoWay n)) e = narrows (ap number e)
+      go (Ok (Open l h n)) e = narrows (ap number e)
+      go (Err why) e = rw e (widest (said s))
 
   -- nor changes a finished answer
   pub finished_stays : number r ≡ 0 → Finished (said r) → s ≡ r
@@ -212,14 +213,14 @@ module _ {v : List ℕ} {from to x b c : ℕ} {work path w p workMore pathMore u
 
 module _ {v : List ℕ} (F : FullDay (network v)) {from to x b : ℕ} {work path w p : List ℕ} where
   -- a closed arrival is the least over every walk
-  pub closed_is_least : {a n k : ℕ} → Searched v from to x b work path (Closed a n k) w p → LeastArrival (Roads (network v)) from x to a
+  pub closed_is_least : {a n k : ℕ} → Searched v from to x b work path (Ok (Closed a n k)) w p → LeastArrival (Roads (network v)) from x to a
   unfolding network_of
   closed_is_least {a} {n} H =
       let g = behind H refl in
       Theory.closed_is_least (network v) (sound H refl) F from to x g.from_in g.to_in b a n g.tells.0 g.tells.1
 
   -- no way is said only where no walk exists
-  pub no_way_is_none : {n : ℕ} → Searched v from to x b work path (NoWay n) w p → (y : ℕ) → Way (Roads (network v)) from x to y → ⊥
+  pub no_way_is_none : {n : ℕ} → Searched v from to x b work path (Ok (NoWay n)) w p → (y : ℕ) → Way (Roads (network v)) from x to y → ⊥
   unfolding network_of
   no_way_is_none {n} H y =
       let g = behind H refl in
@@ -227,7 +228,7 @@ module _ {v : List ℕ} (F : FullDay (network v)) {from to x b : ℕ} {work path
 
   -- an open window holds the least arrival, if there is one: no walk arrives before its lower end, and some walk arrives at its upper
   -- end, where it has one
-  pub open_holds : {l n : ℕ} {h : Option ℕ} → Searched v from to x b work path (Open l h n) w p
+  pub open_holds : {l n : ℕ} {h : Option ℕ} → Searched v from to x b work path (Ok (Open l h n)) w p
       → ((y : ℕ) → Way (Roads (network v)) from x to y → l ≤ y) × ((y : ℕ) → IsAt (upper_of h) y → Way (Roads (network v)) from x to y)
   unfolding network_of
   open_holds {l} {n} {h} H =
@@ -238,7 +239,7 @@ module _ {v : List ℕ} (F : FullDay (network v)) {from to x b : ℕ} {work path
 
 module _ {v : List ℕ} (F : FullDay (network v)) {from to x b y c : ℕ} {work path w p workLater pathLater u q : List ℕ} (later : x ≤ y) where
   -- whatever the later search has found, at any budget, is not below the earlier one's window
-  pub later_never_earlier : {r s : Answer} → Searched v from to x b work path r w p → Searched v from to y c workLater pathLater s u q
+  pub later_never_earlier : {r s : Reply} → Searched v from to x b work path r w p → Searched v from to y c workLater pathLater s u q
       → number r ≡ 0 → number s ≡ 0 → (t : ℕ) → Tops (said s) t → NotBelow (said r) t
   unfolding network_of
   later_never_earlier H K hr hs t top =
@@ -248,6 +249,6 @@ module _ {v : List ℕ} (F : FullDay (network v)) {from to x b y c : ℕ} {work 
       (bare_tops (ruled (volume_of v) from to y c) t (rw (window K hs) at top))))
 
   -- in particular the arrivals of two closed answers are in the order of their departures
-  pub later_closes_later : {a d n m k j : ℕ} → Searched v from to x b work path (Closed a n k) w p
-      → Searched v from to y c workLater pathLater (Closed d m j) u q → a ≤ d
+  pub later_closes_later : {a d n m k j : ℕ} → Searched v from to x b work path (Ok (Closed a n k)) w p
+      → Searched v from to y c workLater pathLater (Ok (Closed d m j)) u q → a ≤ d
   later_closes_later {a} {d} H K = later_never_earlier H K refl refl d refl

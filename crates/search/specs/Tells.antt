@@ -1,7 +1,7 @@
 -- What an answer of the search tells of the settling rule's answer behind it, read backwards from `answer_of`: an answer that is not
 -- refused means that the volume is sound, the question is about its junctions, and the rule answers so. `said` is the answer in the
 -- theory's words, of which the theory's windows speak.
-use Rattle.std.specs.Prelude.{ℕ, ◌*◌, ◌≤◌, ◌<◌, ◌≡◌, refl, Bool, Option, None, Some, List, [], ltb, leb, length}
+use Rattle.std.specs.Prelude.{ℕ, ◌*◌, ◌≤◌, ◌<◌, ◌≡◌, refl, Bool, Option, None, Some, List, [], ltb, leb, length, Result, Ok, Err}
 use Rattle.std.proofs.Common.{ap, sym, ◌∙◌, arith, ltb-true, leb-true, leb-false}
 use Rattle.std.proofs.Math.Bool.{true, false}
 use Rattle.block.specs.Choose.{choose, both}
@@ -13,27 +13,28 @@ use Rattle.volume.specs.Sound.{Sound}
 use Rattle.volume.specs.Open.{open_of}
 use Rattle.volume.specs.Opened.{OpenVolume, opened}
 use Rattle.records.specs.declared.tables.Counts.{Counts}
-use Rattle.volume.specs.declared.Opening as Opening
+use Rattle.block.specs.declared.refusal.Refusal.{Refusal}
+use Rattle.block.specs.declared.refusal.Refusal.TheVariants.{Unknown, UnknownDestination, Work, Path, Arrival}
+use Rattle.block.specs.Refusal.{number_of, place_of}
 use Rattle.settle.specs.Outcome.{upper_of}
 use Rattle.search.specs.Path.{path_of}
-use Rattle.search.specs.Answer.{fits, upper_fits, upper_told, told, path_told, ruled, answer_in, after_opening, answer_of, number}
+use Rattle.search.specs.Answer.{Reply, fits, upper_fits, upper_told, told, path_told, ruled, answer_in, after_opening, answer_of, number}
 use Rattle.search.specs.Steps.{EarlyRefusal, opening_numbered}
-use Rattle.search.specs.declared.Answer.{Answer}
-use Rattle.search.specs.declared.Answer.TheVariants.{Closed, NoWay, Open, Refused}
+use Rattle.search.specs.declared.Answer.TheVariants.{Closed, NoWay, Open}
 
 -- an answer in the theory's words, but for the trail; a refusal says nothing, which is the window of all seconds
-abbrev pub said : Answer → Rule.Answer
-said (Closed a n k) = closed a n []
-said (NoWay n) = no_way n
-said (Open l h n) = open_from l (upper_of h) n
-said (Refused k place) = open_from 0 none 0
+abbrev pub said : Reply → Rule.Answer
+said (Ok (Closed a n k)) = closed a n []
+said (Ok (NoWay n)) = no_way n
+said (Ok (Open l h n)) = open_from l (upper_of h) n
+said (Err why) = open_from 0 none 0
 
 -- answer r tells that the rule answers q, to who leaves at x with room for so many roads
-abbrev pub Tells : Volume → ℕ → ℕ → Rule.Answer → Answer → Type 0
-Tells vol x room q (Closed a n k) = (es : List ℕ) × (q ≡ closed a n es) × (k ≡ length (path_of vol es x)) × (k ≤ room)
-Tells vol x room q (NoWay n) = q ≡ no_way n
-Tells vol x room q (Open l h n) = q ≡ open_from l (upper_of h) n
-Tells vol x room q (Refused k place) = (9 ≤ k) × (k ≤ 10) × (k ≡ 9 → (place ≡ length (path_told vol x q)) × (room < place))
+abbrev pub Tells : Volume → ℕ → ℕ → Rule.Answer → Reply → Type 0
+Tells vol x room q (Ok (Closed a n k)) = (es : List ℕ) × (q ≡ closed a n es) × (k ≡ length (path_of vol es x)) × (k ≤ room)
+Tells vol x room q (Ok (NoWay n)) = q ≡ no_way n
+Tells vol x room q (Ok (Open l h n)) = q ≡ open_from l (upper_of h) n
+Tells vol x room q (Err why) = (9 ≤ number_of why) × (number_of why ≤ 10) × (number_of why ≡ 9 → (place_of why ≡ length (path_told vol x q)) × (room < place_of why))
 
 -- what is told of the rule's answer tells it
 pub told_tells : (vol : Volume) (x room : ℕ) (q : Rule.Answer) → Tells vol x room q (told vol x room q)
@@ -45,7 +46,7 @@ told_tells vol x room (closed a n es) = go (leb k room) (leb-true k room) (leb-f
     k = length (path_of vol es x)
 
     go : (s : Bool) → (s ≡ true → k ≤ room) → (s ≡ false → room < k) → (t : Bool)
-        → Tells vol x room (closed a n es) (choose s (choose t (Closed a n k) (Refused 10 0)) (Refused 9 k))
+        → Tells vol x room (closed a n es) (choose s (choose t (Ok (Closed a n k)) (Err Arrival)) (Err (Path k)))
     go true h g true = (es, refl, refl, h refl)
     go true h g false = (omega arith, omega arith, λ z. absurd (omega arith))
     go false h g t = (omega arith, omega arith, λ z. (refl, g refl))
@@ -55,12 +56,12 @@ told_tells vol x room (open_from l h n) = go (both (fits l) (upper_fits h)) (sam
     same none = refl
     same (at_most a) = refl
 
-    go : (t : Bool) → h ≡ upper_of (upper_told h) → Tells vol x room (open_from l h n) (choose t (Open l (upper_told h) n) (Refused 10 0))
+    go : (t : Bool) → h ≡ upper_of (upper_told h) → Tells vol x room (open_from l h n) (choose t (Ok (Open l (upper_told h) n)) (Err Arrival))
     go true e = ap (λ (h : UpperEnd). open_from l h n) e
     go false e = (omega arith, omega arith, λ z. absurd (omega arith))
 
 -- r is the rule's answer, on a sound volume
-pub record Given (vol : Volume) (from to x b room : ℕ) (r : Answer) : Type 0 where
+pub record Given (vol : Volume) (from to x b room : ℕ) (r : Reply) : Type 0 where
   pub sound : Sound vol
   pub from_in : from < vol.junctions
   pub to_in : to < vol.junctions
@@ -68,7 +69,7 @@ pub record Given (vol : Volume) (from to x b room : ℕ) (r : Answer) : Type 0 w
   pub tells : Tells vol x room (ruled vol from to x b) r
 
 -- an answer is given by the rule, or refused 1 to 8
-pub data Comes (vol : Volume) (from to x b room : ℕ) (r : Answer) : Type 0 where
+pub data Comes (vol : Volume) (from to x b room : ℕ) (r : Reply) : Type 0 where
   ruled_so : Given vol from to x b room r → Comes vol from to x b room r
   refused_so : 1 ≤ number r → number r ≤ 8 → Comes vol from to x b room r
 
@@ -79,7 +80,7 @@ module _ (vol : Volume) (from to x b space room : ℕ) where
   comes_in S = go (ltb from vol.junctions) (ltb-true from vol.junctions) (ltb to vol.junctions) (ltb-true to vol.junctions) (leb (8 * vol.junctions) space)
     where
       go : (s : Bool) → (s ≡ true → from < vol.junctions) → (t : Bool) → (t ≡ true → to < vol.junctions) → (w : Bool)
-          → Comes vol from to x b room (choose s (choose t (choose w (told vol x room (ruled vol from to x b)) (Refused 8 0)) (Refused 7 1)) (Refused 7 0))
+          → Comes vol from to x b room (choose s (choose t (choose w (told vol x room (ruled vol from to x b)) (Err Work)) (Err UnknownDestination)) (Err Unknown))
       go true f true t true = ruled_so (record { sound = S; from_in = f refl; to_in = t refl; is = refl; tells = told_tells vol x room (ruled vol from to x b) })
       go true f true t false = refused_so (omega arith) (omega arith)
       go true f false t w = refused_so (omega arith) (omega arith)
@@ -90,13 +91,13 @@ pub comes : (v : List ℕ) (from to x b space room : ℕ) → Comes (volume_of v
 unfolding answer_of
 comes v from to x b space room = go (open_of v) (opened v) (opening_numbered v)
   where
-    go : (o : Opening.Opening) → ((c : Counts) → o ≡ Opening.TheVariants.Opened c → OpenVolume v c) → EarlyRefusal o
+    go : (o : Result Counts Refusal) → ((c : Counts) → o ≡ Ok c → OpenVolume v c) → EarlyRefusal o
         → Comes (volume_of v) from to x b room (after_opening o (answer_in (volume_of v) from to x b space room))
-    go (Opening.TheVariants.Opened c) s e = comes_in (volume_of v) from to x b space room (s c refl).sound
-    go (Opening.TheVariants.Refused k place) s e = refused_so e.0 (omega arith)
+    go (Ok c) s e = comes_in (volume_of v) from to x b space room (s c refl).sound
+    go (Err why) s e = refused_so e.0 (omega arith)
 
 -- what is not refused is given by the rule
-pub given : (v : List ℕ) (from to x b space room : ℕ) (r : Answer) → r ≡ answer_of v from to x b space room → number r ≡ 0
+pub given : (v : List ℕ) (from to x b space room : ℕ) (r : Reply) → r ≡ answer_of v from to x b space room → number r ≡ 0
     → Given (volume_of v) from to x b room r
 given v from to x b space room r e z = go (rw e (comes v from to x b space room))
   where
@@ -107,21 +108,21 @@ given v from to x b space room r e z = go (rw e (comes v from to x b space room)
 -- The answer back from what it tells
 
 -- the rule's answer, told with room and clock enough
-abbrev pub plainly : Volume → ℕ → Rule.Answer → Answer
-plainly vol x (no_way n) = NoWay n
-plainly vol x (closed a n es) = Closed a n (length (path_of vol es x))
-plainly vol x (open_from l h n) = Open l (upper_told h) n
+abbrev pub plainly : Volume → ℕ → Rule.Answer → Reply
+plainly vol x (no_way n) = Ok (NoWay n)
+plainly vol x (closed a n es) = Ok (Closed a n (length (path_of vol es x)))
+plainly vol x (open_from l h n) = Ok (Open l (upper_told h) n)
 
 -- an answer that is not refused is no other
-pub tells_plainly : (vol : Volume) (x room : ℕ) (q : Rule.Answer) (r : Answer) → Tells vol x room q r → number r ≡ 0 → r ≡ plainly vol x q
-tells_plainly vol x room q (Closed a n k) (es, e, c, f) z = ap (Closed a n) c ∙ ap (plainly vol x) (sym e)
-tells_plainly vol x room q (NoWay n) e z = ap (plainly vol x) (sym e)
-tells_plainly vol x room q (Open l h n) e z = ap (λ (h : Option ℕ). Open l h n) (same h) ∙ ap (plainly vol x) (sym e)
+pub tells_plainly : (vol : Volume) (x room : ℕ) (q : Rule.Answer) (r : Reply) → Tells vol x room q r → number r ≡ 0 → r ≡ plainly vol x q
+tells_plainly vol x room q (Ok (Closed a n k)) (es, e, c, f) z = ap (λ (i : ℕ). Ok (Closed a n i)) c ∙ ap (plainly vol x) (sym e)
+tells_plainly vol x room q (Ok (NoWay n)) e z = ap (plainly vol x) (sym e)
+tells_plainly vol x room q (Ok (Open l h n)) e z = ap (λ (h : Option ℕ). Ok (Open l h n)) (same h) ∙ ap (plainly vol x) (sym e)
   where
     same : (h : Option ℕ) → h ≡ upper_told (upper_of h)
     same (Some a) = refl
     same None = refl
-tells_plainly vol x room q (Refused k place) e z = absurd (omega arith)
+tells_plainly vol x room q (Err why) e z = absurd (omega arith)
 
 -- Windows
 
@@ -132,11 +133,11 @@ bare (closed a n es) = closed a n []
 bare (open_from l h n) = open_from l h n
 
 -- is what is said
-pub said_is : (vol : Volume) (x room : ℕ) (q : Rule.Answer) (r : Answer) → Tells vol x room q r → number r ≡ 0 → said r ≡ bare q
-said_is vol x room q (Closed a n k) (es, e, c, f) z = ap bare (sym e)
-said_is vol x room q (NoWay n) e z = ap bare (sym e)
-said_is vol x room q (Open l h n) e z = ap bare (sym e)
-said_is vol x room q (Refused k place) e z = absurd (omega arith)
+pub said_is : (vol : Volume) (x room : ℕ) (q : Rule.Answer) (r : Reply) → Tells vol x room q r → number r ≡ 0 → said r ≡ bare q
+said_is vol x room q (Ok (Closed a n k)) (es, e, c, f) z = ap bare (sym e)
+said_is vol x room q (Ok (NoWay n)) e z = ap bare (sym e)
+said_is vol x room q (Ok (Open l h n)) e z = ap bare (sym e)
+said_is vol x room q (Err why) e z = absurd (omega arith)
 
 -- and has the same window
 

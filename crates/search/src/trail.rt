@@ -1,13 +1,13 @@
 // The trail of a closed answer: from the destination back to the start, by the arc of each state's label.
 ghost use Rattle.std.specs.Prelude.{◌≡◌, ◌*◌, ◌≤◌, ◌<◌, length};
 ghost use Rattle.theory.specs.Settling.{arc_of};
-ghost use Rattle.records.specs.Format.{volume_of, Laid};
-ghost use Rattle.volume.specs.Sound.{Sound};
+ghost use Rattle.records.specs.Format.{volume_of};
 ghost use Rattle.settle.specs.Work.{labels};
 ghost use Rattle.search.specs.Trail.{Walkable, came_from_in, Trailed};
 
-use records::tables::{Tables, edge_from};
+use settle::Query;
 use settle::labels::{ARC, NO_LABEL, STATE};
+use volume::sound::Opened;
 
 // The arc of state s's label, 0 where it has none.
 #[tactic(auto, using(crate::specs::Trail::arc_cases))]
@@ -24,19 +24,18 @@ fn arc_at(work: &[u64], states: usize, s: usize) -> u64
 
 // The state from which an arc leads to state s: the turn (arc 0) from its own junction, arc 1 + e from the start of edge e.
 #[tactic(auto, using(crate::specs::Trail::back_cases))]
-fn came_from(v: &[u8], t: Tables, n: usize, s: usize, arc: u64) -> usize
-    requires laid { Laid v.now t }
-    requires sound { Sound (volume_of v.now) }
-    requires n_value { (n ≡ (volume_of v.now).junctions) × (arc ≤ (volume_of v.now).edges) }
-    ensures { result ≡ came_from_in (volume_of v.now) s arc }
+fn came_from(opened: &Opened<'_>, s: usize, arc: u64) -> usize
+    requires { arc ≤ (volume_of opened.now.records.bytes.now).edges }
+    ensures { result ≡ came_from_in (volume_of opened.now.records.bytes.now) s arc }
 {
+    let n = opened.records.counts.junctions;
     if arc == 0 {
         if s < n {
             return 0;
         }
         return s - n;
     }
-    let from = edge_from(v, t, (arc - 1) as usize);
+    let from = opened.records.edge((arc - 1) as usize).from;
     if s < n {
         return from;
     }
@@ -45,29 +44,25 @@ fn came_from(v: &[u8], t: Tables, n: usize, s: usize, arc: u64) -> usize
 
 // Writes the edges of the trail, at most `used` of them, to the last places of `trail`, and answers where they begin.
 pub fn walk_back(
-    v: &[u8],
-    t: Tables,
-    n: usize,
-    from: usize,
-    to: usize,
+    opened: &Opened<'_>,
+    query: Query,
     used: usize,
     work: &[u64],
     trail: &mut [u16],
 ) -> usize
-    requires laid { Laid v.now t }
-    requires sound { Sound (volume_of v.now) }
-    requires walkable { Walkable (volume_of v.now) n to work.now }
+    requires walkable { Walkable (volume_of opened.now.records.bytes.now) opened.now.records.counts.junctions query.to work.now }
     requires used_in_bounds { used ≤ length trail.old }
-    ensures { Trailed (volume_of v.now) from to used work.now trail.new result }
+    ensures { Trailed (volume_of opened.now.records.bytes.now) query.from query.to used work.now trail.new result }
 {
+    let n = opened.records.counts.junctions;
     let mut at = trail.len();
-    let mut s = n + to;
+    let mut s = n + query.to;
     for _walked in 0..used {
-        if s == from {
+        if s == query.from {
             return at;
         }
         let arc = arc_at(work, n + n, s);
-        s = came_from(v, t, n, s, arc);
+        s = came_from(opened, s, arc);
         if arc != 0 {
             at -= 1;
             trail[at] = (arc - 1) as u16;

@@ -3,9 +3,8 @@ use Rattle.search.proofs.apply_rule.Goals as goal
 
 pub close-requires-clause-used_bound : goal.close-requires-clause-used_bound
 close-requires-clause-used_bound c =
-    let o = c.requires.open_volume in
     let R = rw c.in-Closed.is at c.run-outcome.ensures in
-    ran_chain o.sound c.requires.question R
+    ran_chain c.args.opened.now.sound c.requires R
 
 pub returns-in-NoWay : goal.returns-in-NoWay
 returns-in-NoWay c =

@@ -1,31 +1,27 @@
 use native.Mathlib.Omega.{arith}
-use Rattle.volume.specs.Opened.{opened}
 use Rattle.search.specs.Steps.{no_start, no_destination, no_work, question, by_rule}
 use Rattle.search.proofs.search_open.Goals as goal
 
 pub returns-then-n-query : goal.returns-then-n-query
 returns-then-n-query c =
-    no_start c.args.v.now c.args.query.from c.args.query.to c.args.query.departure c.args.query.budget c.args.work.now c.args.path.now c.args.c c.requires.v_value c.if-n-query.true
+    no_start c.args.opened.now.records.bytes.now c.args.query.from c.args.query.to c.args.query.departure c.args.query.budget c.args.work.now c.args.path.now c.args.opened.now.records.counts c.requires.opens c.if-n-query.true
 
 pub returns-then-n-query-2 : goal.returns-then-n-query-2
 returns-then-n-query-2 c =
-    no_destination c.args.v.now c.args.query.from c.args.query.to c.args.query.departure c.args.query.budget c.args.work.now c.args.path.now c.args.c c.requires.v_value (omega arith) c.if-n-query-2.true
+    no_destination c.args.opened.now.records.bytes.now c.args.query.from c.args.query.to c.args.query.departure c.args.query.budget c.args.work.now c.args.path.now c.args.opened.now.records.counts c.requires.opens (omega arith) c.if-n-query-2.true
 
 pub overflow_mul-n : goal.overflow_mul-n
 overflow_mul-n c =
-    let n = (opened _ _ c.requires.v_value).few.junctions in
+    let n = c.args.opened.now.records.few.junctions in
     omega arith
 
 pub returns-then-work-n : goal.returns-then-work-n
 returns-then-work-n c =
-    no_work c.args.v.now c.args.query.from c.args.query.to c.args.query.departure c.args.query.budget c.args.work.now c.args.path.now c.args.c c.requires.v_value (omega arith) (omega arith) c.if-work-n.true
+    no_work c.args.opened.now.records.bytes.now c.args.query.from c.args.query.to c.args.query.departure c.args.query.budget c.args.work.now c.args.path.now c.args.opened.now.records.counts c.requires.opens (omega arith) (omega arith) c.if-work-n.true
 
-pub apply_rule-r-requires-clause-open_volume : goal.apply_rule-r-requires-clause-open_volume
-apply_rule-r-requires-clause-open_volume c = opened c.args.v.now c.args.c c.requires.v_value
-
-pub apply_rule-r-requires-clause-question : goal.apply_rule-r-requires-clause-question
-apply_rule-r-requires-clause-question c = question c.args.v.now c.args.query.from c.args.query.to c.args.query.departure c.args.query.budget c.args.work.now c.args.path.now c.args.c c.requires.v_value (omega arith) (omega arith) (omega arith) c.requires.x_bound.0 c.requires.x_bound.1
+pub apply_rule-r-requires : goal.apply_rule-r-requires
+apply_rule-r-requires c = question c.args.opened.now.records.bytes.now c.args.query.from c.args.query.to c.args.query.departure c.args.query.budget c.args.work.now c.args.path.now c.args.opened.now.records.counts c.requires.opens (omega arith) (omega arith) (omega arith) c.requires.x_bound.0 c.requires.x_bound.1
 
 pub returns : goal.returns
 returns c =
-    by_rule c.args.v.now c.args.query.from c.args.query.to c.args.query.departure c.args.query.budget c.args.work.now c.args.path.now c.args.c c.requires.v_value (omega arith) (omega arith) (omega arith) _ c.apply_rule-r.ensures c.clear.ensures
+    by_rule c.args.opened.now.records.bytes.now c.args.query.from c.args.query.to c.args.query.departure c.args.query.budget c.args.work.now c.args.path.now c.args.opened.now.records.counts c.requires.opens (omega arith) (omega arith) (omega arith) _ c.apply_rule-r.ensures c.clear.ensures

@@ -3,4 +3,4 @@ use Rattle.search.specs.Path.{Driven}
 use Rattle.search.proofs.path.count_path.Given as goal
 
 abbrev pub invariant-loop-e : goal.invariant-loop-e
-invariant-loop-e l = Driven (volume_of l.v) l.trail l.x l.e-index l.y l.n
+invariant-loop-e l = Driven (volume_of l.opened.records.bytes.now) l.trail l.x l.e-index l.y l.n

@@ -7,4 +7,4 @@ use Rattle.search.proofs.path.write_path.Given as goal
 
 abbrev pub invariant-loop-e : goal.invariant-loop-e
 invariant-loop-e l =
-    Driven (volume_of l.v) l.trail l.x l.e-index l.y l.n × (l.path ≡ with_roads (path_of (volume_of l.v) (take l.e-index l.trail) l.x) l.initial.path)
+    Driven (volume_of l.opened.records.bytes.now) l.trail l.x l.e-index l.y l.n × (l.path ≡ with_roads (path_of (volume_of l.opened.records.bytes.now) (take l.e-index l.trail) l.x) l.initial.path)

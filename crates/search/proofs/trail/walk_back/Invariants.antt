@@ -5,4 +5,4 @@ use Rattle.search.proofs.trail.walk_back.Given as goal
 
 abbrev pub invariant-loop-walked : goal.invariant-loop-walked
 invariant-loop-walked l =
-    Walked (volume_of l.v) l.from l.to l.used l.work (l.used - l._walked) l.s l.at l.trail
+    Walked (volume_of l.opened.records.bytes.now) l.query.from l.query.to l.used l.work (l.used - l._walked) l.s l.at l.trail
