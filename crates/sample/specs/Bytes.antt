@@ -2,7 +2,7 @@
 -- sealing writes. Beside it the same network with edge 2 having its first piece alone. What is asked of the two is in Cases.
 use Rattle.std.specs.Prelude.{ℕ, ◌-◌, ◌/◌, ◌%◌, List, [], ◌∷◌, ◌++◌, length, replicate}
 use Rattle.block.specs.Seal.{sealed}
-use Rattle.rules.specs.Rules.{empty}
+use Rattle.records.specs.Format.{empty}
 
 -- the bytes of words, least byte first
 unfoldable pub bytes_of : List ℕ → List ℕ

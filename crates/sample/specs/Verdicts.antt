@@ -1,7 +1,7 @@
 -- What the full check answers for the sample network, and for the one whose edge 2 has its first piece alone. Edges 0 and 1 are roads 0
 -- and 1; edge 2 is compared with the two ways from 1 to 2 piece by piece, as Rivals compares them. What an answer of the check says is
 -- the crate `full`'s; here it is shown to hold.
-use Rattle.std.specs.Prelude.{ℕ, ◌+◌, ◌≤◌, ◌<◌, ◌≡◌, refl, Some, None}
+use Rattle.std.specs.Prelude.{ℕ, ◌+◌, ◌≤◌, ◌<◌, ◌≡◌, refl, Some, None, Ok}
 use Rattle.std.proofs.Math.Path.{ap}
 use Rattle.std.proofs.Common.{sym, ◌∙◌, mod-eq_of_lt, arith}
 use Rattle.std.proofs.Math.Decide.{dec_lt}
@@ -17,7 +17,6 @@ use Rattle.full.specs.Means.{RoadSays, PairSays, Pair}
 use Rattle.full.proofs.FaultMeans.{holds_once}
 use Rattle.full.specs.declared.cover.Flaw.TheVariants.{Late}
 use Rattle.full.specs.declared.Fault.TheVariants.{RoadLate}
-use Rattle.full.specs.declared.Verdict.TheVariants.{Checked}
 use Rattle.sample.specs.Bytes.{sample, one_piece}
 use Rattle.sample.specs.Computing.{computing}
 use Rattle.sample.specs.Opens.{sample_counts, one_piece_counts, sample_opens, one_piece_opens}
@@ -66,7 +65,7 @@ one_piece_late =
     }
 
 -- the check says so: the roads before it are covered
-pub one_piece_verdict : verdict_of one_piece ≡ Checked (Some (RoadLate 2 70806))
+pub one_piece_verdict : verdict_of one_piece ≡ Ok (Some (RoadLate 2 70806))
 one_piece_verdict =
     let vol = volume_of one_piece in
     let H = one_piece_shared in
@@ -74,7 +73,7 @@ one_piece_verdict =
     let first = own_edge vol H 1 (omega arith) H.edge_1 in
     let before : (k : ℕ) → k < 3 → k < 2 → RoadSays vol k None =
     three (λ k. k < 2 → RoadSays vol k None) (λ l. zeroth) (λ l. first) (λ l. absurd (omega arith)) in
-    holds_once one_piece (Checked (Some (RoadLate 2 70806))) (
+    holds_once one_piece (Ok (Some (RoadLate 2 70806))) (
       (one_piece_counts, one_piece_opens),
       record { there = omega (arith, H.three_roads); before = λ k l. before k (omega arith) l; says = one_piece_late },
     )
@@ -82,7 +81,7 @@ one_piece_verdict =
 -- so it is not full
 pub one_piece_not_full : FullDay (network_of (volume_of one_piece)) → ⊥
 one_piece_not_full full =
-    cc (sym one_piece_verdict ∙ holds_once one_piece (Checked None) ((one_piece_counts, one_piece_opens), full))
+    cc (sym one_piece_verdict ∙ holds_once one_piece (Ok None) ((one_piece_counts, one_piece_opens), full))
 
 -- The sample
 
@@ -169,10 +168,10 @@ sample_pairs =
     (λ r h p. absurd (omega (arith, p.below_from)))
 
 -- the sample network is full
-pub sample_full : verdict_of sample ≡ Checked None
+pub sample_full : verdict_of sample ≡ Ok None
 unfolding computing
 sample_full =
-    holds_once sample (Checked None) (
+    holds_once sample (Ok None) (
       (sample_counts, sample_opens),
       record {
         road = sample_roads;
