@@ -5,9 +5,9 @@
 ghost use Rattle.std.specs.Prelude.{◌≤◌, length, IfOk};
 
 use block::word;
-use search::{Answer, search};
+use search::search;
 use std::io::{self, Read};
-use telling::say::{closed, report};
+use telling::say::reply;
 
 // Answers the question at the start of the input over the volume behind it.
 fn ask(rt: &impl Print, input: &[u8], work: &mut [u64], path: &mut [u32]) -> io::Result<()>
@@ -18,10 +18,7 @@ fn ask(rt: &impl Print, input: &[u8], work: &mut [u64], path: &mut [u32]) -> io:
     let departure = word(input, 2);
     let budget = word(input, 3);
     let answer = search(&input[16..], from, to, departure, budget, work, path);
-    let Answer::Closed(arrival, used, roads) = answer else {
-        return report(rt, answer);
-    };
-    closed(rt, arrival, used, &path[..roads])
+    reply(rt, answer, path)
 }
 
 // Reads until the buffer is full or the input ends, and answers how many bytes it put at the start of the buffer.

@@ -1,39 +1,40 @@
 -- The number and the values that tell each answer of the face, as host/breezeflint.h says them.
-use Rattle.std.specs.Prelude.{ℕ, ◌≡◌, refl, List, [], ◌∷◌, Option, Some, None}
+use Rattle.std.specs.Prelude.{ℕ, ◌≡◌, refl, List, [], ◌∷◌, Option, Some, None, Result, Ok, Err}
 use Rattle.block.specs.Seal.{sealing, paper}
-use Rattle.volume.specs.declared.Opening.{Opening}
-use Rattle.volume.specs.declared.Opening.TheVariants.{Opened, Refused as NotOpened}
-use Rattle.travel.specs.declared.Timing.{Timing}
-use Rattle.travel.specs.declared.Timing.TheVariants.{Lasts, Refused as NotTimed}
+use Rattle.block.specs.Refusal.{number_of, place_of}
+use Rattle.block.specs.declared.refusal.Refusal.{Refusal}
+use Rattle.records.specs.declared.tables.Counts.{Counts}
 use Rattle.full.specs.declared.Fault.{Fault}
 use Rattle.full.specs.declared.Fault.TheVariants.{RoadMissing, RoadLate, PairMissing, PairLate}
-use Rattle.full.specs.declared.Verdict.{Verdict}
-use Rattle.full.specs.declared.Verdict.TheVariants.{Checked}
+use Rattle.full.specs.Fault.{Verdict}
 use Rattle.full.specs.Paper.{Paper, found, refusal, paper as onPaper}
-use Rattle.search.specs.declared.Answer.{Answer}
-use Rattle.search.specs.declared.Answer.TheVariants.{Closed, NoWay, Open, Refused as NotSearched}
+use Rattle.search.specs.Answer.{Reply}
+use Rattle.search.specs.declared.Answer.TheVariants.{Closed, NoWay, Open}
 use Rattle.exports.specs.Told.{Told}
 
 -- a refusal: its number, and its place
 abbrev pub refused : ℕ → ℕ → Told
 refused number place = record { number = number; values = place ∷ [] }
 
+abbrev pub refusal_told : Refusal → Told
+refusal_told why = refused (number_of why) (place_of why)
+
 -- sealing: 0, or the refusal's number
 abbrev pub sealing_number : List ℕ → ℕ
 sealing_number v = paper (sealing v)
 
 -- opening: N, R, P, E, Q
-abbrev pub opening_told : Opening → Told
-opening_told (Opened c) = record {
+abbrev pub opening_told : Result Counts Refusal → Told
+opening_told (Ok c) = record {
   number = 0;
   values = c.junctions ∷ c.roads ∷ c.points ∷ c.edges ∷ c.pieces ∷ [];
 }
-opening_told (NotOpened number place) = refused number place
+opening_told (Err why) = refusal_told why
 
 -- a travel time: the duration
-abbrev pub timing_told : Timing → Told
-timing_told (Lasts duration) = record { number = 0; values = duration ∷ [] }
-timing_told (NotTimed number place) = refused number place
+abbrev pub timing_told : Result ℕ Refusal → Told
+timing_told (Ok duration) = record { number = 0; values = duration ∷ [] }
+timing_told (Err why) = refusal_told why
 
 -- four values
 abbrev pub four : ℕ → ℕ → ℕ → ℕ → Told
@@ -48,7 +49,7 @@ abbrev pub verdict_told : Verdict → Told
 verdict_told verdict = paper_told (onPaper verdict)
 
 -- whatever is found, the check returns 0
-pub checked_number : (found : Option Fault) → 0 ≡ (verdict_told (Checked found)).number
+pub checked_number : (found : Option Fault) → 0 ≡ (verdict_told (Ok found)).number
 checked_number None = refl
 checked_number (Some (RoadMissing k)) = refl
 checked_number (Some (RoadLate k x)) = refl
@@ -61,8 +62,8 @@ window_told lower (Some most) used = record { number = 0; values = 2 ∷ lower �
 window_told lower None used = record { number = 0; values = 2 ∷ lower ∷ 0 ∷ 0 ∷ used ∷ [] }
 
 -- the search: kind 0, arrival, used, roads; kind 1, used; kind 2 and the window
-abbrev pub answer_told : Answer → Told
-answer_told (Closed arrival used roads) = four 0 arrival used roads
-answer_told (NoWay used) = record { number = 0; values = 1 ∷ used ∷ [] }
-answer_told (Open lower upper used) = window_told lower upper used
-answer_told (NotSearched number place) = refused number place
+abbrev pub answer_told : Reply → Told
+answer_told (Ok (Closed arrival used roads)) = four 0 arrival used roads
+answer_told (Ok (NoWay used)) = record { number = 0; values = 1 ∷ used ∷ [] }
+answer_told (Ok (Open lower upper used)) = window_told lower upper used
+answer_told (Err why) = refusal_told why

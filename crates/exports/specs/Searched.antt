@@ -3,13 +3,12 @@ use Rattle.std.specs.Prelude.{ℕ, ◌*◌, ◌<◌, ◌≤◌, ◌≡◌, List,
 use Rattle.std.proofs.Common.{ap, sym, ◌∙◌, lt-ltb, le-ltb}
 use Rattle.block.specs.Choose.{choose, choose_yes, choose_no}
 use Rattle.records.specs.Format.{volume_of}
-use Rattle.search.specs.Answer.{answer_of, work_after, path_after, path_told, ruled, Searched}
-use Rattle.search.specs.declared.Answer.{Answer}
+use Rattle.search.specs.Answer.{answer_of, work_after, path_after, path_told, ruled, Reply, Searched}
 use Rattle.exports.specs.Told.{told_number, told_places, tells_not}
 use Rattle.exports.specs.Numbers.{answer_told}
 
 -- the answer of the search, by the bytes and the rooms
-abbrev pub asked : List ℕ → ℕ → ℕ → ℕ → ℕ → List ℕ → List ℕ → Answer
+abbrev pub asked : List ℕ → ℕ → ℕ → ℕ → ℕ → List ℕ → List ℕ → Reply
 asked v from to x b work path = answer_of v from to x b (length work) (length path)
 
 -- with fewer than 8 places in `out` nothing is changed; else the search leaves work and path as it says, and its answer is told
@@ -34,15 +33,15 @@ module _ (v : List ℕ) (from to x b : ℕ) (work path out : List ℕ) where
       }
 
   -- one that is long enough, after the search answered a
-  pub host_long : (a : Answer) (r : ℕ) (workOut pathOut outOut : List ℕ) → 8 ≤ length out → Searched v from to x b work path a workOut pathOut
+  pub host_long : (a : Reply) (r : ℕ) (workOut pathOut outOut : List ℕ) → 8 ≤ length out → Searched v from to x b work path a workOut pathOut
       → r ≡ told_number out (answer_told a) → outOut ≡ told_places out (answer_told a)
       → HostSearched v from to x b work path out r workOut pathOut outOut
   host_long a r workOut pathOut outOut h s n p = record {
-    answers = n ∙ ap (λ (q : Answer). told_number out (answer_told q)) s.answers;
-    tells = p ∙ ap (λ (q : Answer). told_places out (answer_told q)) s.answers;
-    works = s.clears ∙ ap (λ (q : Answer). work_after q (8 * (volume_of v).junctions) work) s.answers ∙ sym (choose_no _ _ (le-ltb (length out) 8 h));
+    answers = n ∙ ap (λ (q : Reply). told_number out (answer_told q)) s.answers;
+    tells = p ∙ ap (λ (q : Reply). told_places out (answer_told q)) s.answers;
+    works = s.clears ∙ ap (λ (q : Reply). work_after q (8 * (volume_of v).junctions) work) s.answers ∙ sym (choose_no _ _ (le-ltb (length out) 8 h));
     writes = s.writes
-        ∙ ap (λ (q : Answer). path_after q (path_told (volume_of v) x (ruled (volume_of v) from to x b)) path) s.answers
+        ∙ ap (λ (q : Reply). path_after q (path_told (volume_of v) x (ruled (volume_of v) from to x b)) path) s.answers
         ∙ sym (choose_no _ _ (le-ltb (length out) 8 h));
   }
 

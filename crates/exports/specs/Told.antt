@@ -59,6 +59,12 @@ tells out places said told is h e = (
   e ∙ ap (λ (t : Told). with_first t.values out) is ∙ sym (long_places out told h),
 )
 
+-- the same of a number and places that are what is said
+pub tells_as : (out places : List ℕ) (number : ℕ) (said told : Told) → said ≡ told → 8 ≤ length out
+    → (number ≡ said.number) × (places ≡ with_first said.values out)
+    → (number ≡ told_number out told) × (places ≡ told_places out told)
+tells_as out places number said told is h e = let t = tells out places said told is h e.1 in (e.0 ∙ t.0, t.1)
+
 -- a function of the C face that tells its answer has one outcome: its number, and the places of `out`
 pub one_telling : (out : List ℕ) (told : Told) (r s : ℕ) (a b : List ℕ) → (r ≡ told_number out told) × (a ≡ told_places out told)
     → (s ≡ told_number out told) × (b ≡ told_places out told) → (r ≡ s) × (a ≡ b)

@@ -1,24 +1,23 @@
 // The full check under its C name.
-ghost use Rattle.std.specs.Prelude.{◌≡◌, ◌≤◌, length};
-ghost use Rattle.full.specs.declared.Verdict.TheVariants.{Checked};
+ghost use Rattle.std.specs.Prelude.{◌≡◌, ◌≤◌, Ok, length};
 ghost use Rattle.full.specs.Fault.{verdict_of};
 ghost use Rattle.exports.specs.Told.{told_number, told_places, with_first};
 ghost use Rattle.exports.specs.Numbers.{verdict_told};
 
-use crate::tell::{tell, tell_four};
-use full::{Fault, Verdict};
+use crate::tell::{refuse, tell};
+use full::Fault;
 
 // Writes what the check found: kind, road or left edge, right edge, second.
-fn tell_found(out: &mut [u64], found: Option<Fault>)
+fn tell_found(out: &mut [u64], found: Option<Fault>) -> u32
     requires { 8 ≤ length out.old }
-    ensures { out.new ≡ with_first (verdict_told (Checked found)).values out.old }
+    ensures { (result ≡ (verdict_told (Ok found)).number) × (out.new ≡ with_first (verdict_told (Ok found)).values out.old) }
 {
     match found {
-        None => tell_four(out, 0, 0, 0, 0),
-        Some(Fault::RoadMissing(k)) => tell_four(out, 1, k as u64, 0, 0),
-        Some(Fault::RoadLate(k, x)) => tell_four(out, 2, k as u64, 0, x),
-        Some(Fault::PairMissing(l, r)) => tell_four(out, 3, l as u64, r as u64, 0),
-        Some(Fault::PairLate(l, r, x)) => tell_four(out, 4, l as u64, r as u64, x),
+        None => tell(out, &[0, 0, 0, 0]),
+        Some(Fault::RoadMissing(k)) => tell(out, &[1, k as u64, 0, 0]),
+        Some(Fault::RoadLate(k, x)) => tell(out, &[2, k as u64, 0, x]),
+        Some(Fault::PairMissing(l, r)) => tell(out, &[3, l as u64, r as u64, 0]),
+        Some(Fault::PairLate(l, r, x)) => tell(out, &[4, l as u64, r as u64, x]),
     }
 }
 
@@ -30,15 +29,8 @@ pub extern "C" fn bf_check(v: &[u8], out: &mut [u64]) -> u32
     if out.len() < 8 {
         return 9;
     }
-    let verdict = full::check(v);
-    match verdict {
-        Verdict::Checked(found) => {
-            tell_found(out, found);
-            0
-        }
-        Verdict::Refused(number, place) => {
-            tell(out, place);
-            number
-        }
+    match full::check(v) {
+        Ok(found) => tell_found(out, found),
+        Err(why) => refuse(out, why),
     }
 }

@@ -9,10 +9,8 @@ ghost use Rattle.travel.specs.Times.{road_time_of, edge_time_of};
 ghost use Rattle.exports.specs.Told.{told_number, told_places};
 ghost use Rattle.exports.specs.Numbers.{sealing_number, opening_told, timing_told};
 
-use crate::tell::{tell, tell_five};
-use block::Sealing;
-use travel::Timing;
-use volume::Opening;
+use crate::tell::{refuse, tell};
+use block::refusal::Refusal;
 
 pub mod checking;
 pub mod searching;
@@ -23,10 +21,9 @@ pub mod tell;
 pub extern "C" fn bf_seal(v: &mut [u8]) -> u32
     ensures { (result ≡ sealing_number v.old) × (v.new ≡ sealed v.old) }
 {
-    let sealing = block::seal(v);
-    match sealing {
-        Sealing::Sealed => 0,
-        Sealing::Refused(number, _) => number,
+    match block::seal(v) {
+        Ok(()) => 0,
+        Err(why) => why.number(),
     }
 }
 
@@ -38,40 +35,29 @@ pub extern "C" fn bf_open(v: &[u8], out: &mut [u64]) -> u32
     if out.len() < 8 {
         return 9;
     }
-    let opening = volume::open(v);
-    match opening {
-        Opening::Opened(c) => {
-            tell_five(
-                out,
+    match volume::open(v) {
+        Ok(c) => tell(
+            out,
+            &[
                 c.junctions as u64,
                 c.roads as u64,
                 c.points as u64,
                 c.edges as u64,
                 c.pieces as u64,
-            );
-            0
-        }
-        Opening::Refused(number, place) => {
-            tell(out, place);
-            number
-        }
+            ],
+        ),
+        Err(why) => refuse(out, why),
     }
 }
 
 // Writes a travel time: 0 and the duration, or the refusal's number and its place.
-fn tell_time(timing: Timing, out: &mut [u64]) -> u32
+fn tell_time(timing: Result<u64, Refusal>, out: &mut [u64]) -> u32
     requires { 8 ≤ length out.old }
     ensures { (result ≡ told_number out.old (timing_told timing)) × (out.new ≡ told_places out.old (timing_told timing)) }
 {
     match timing {
-        Timing::Lasts(duration) => {
-            tell(out, duration);
-            0
-        }
-        Timing::Refused(number, place) => {
-            tell(out, place);
-            number
-        }
+        Ok(duration) => tell(out, &[duration]),
+        Err(why) => refuse(out, why),
     }
 }
 

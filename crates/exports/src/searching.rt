@@ -1,40 +1,24 @@
 // The search under its C name.
 ghost use Rattle.std.specs.Prelude.{◌≡◌, ◌≤◌, length};
 ghost use Rattle.exports.specs.Searched.{HostSearched};
-ghost use Rattle.exports.specs.Told.{told_number, told_places};
+ghost use Rattle.exports.specs.Told.{with_first};
 ghost use Rattle.exports.specs.Numbers.{answer_told};
 
-use crate::tell::{tell, tell_five, tell_four, tell_two};
+use crate::tell::{refuse, tell};
+use block::refusal::Refusal;
 use search::Answer;
 
 // Writes a search's answer: 0 and its kind and values, or the refusal's number and its place.
-fn tell_answer(answer: Answer, out: &mut [u64]) -> u32
+fn tell_answer(reply: Result<Answer, Refusal>, out: &mut [u64]) -> u32
     requires { 8 ≤ length out.old }
-    ensures { (result ≡ told_number out.old (answer_told answer)) × (out.new ≡ told_places out.old (answer_told answer)) }
+    ensures { (result ≡ (answer_told reply).number) × (out.new ≡ with_first (answer_told reply).values out.old) }
 {
-    match answer {
-        Answer::Closed(arrival, used, roads) => {
-            tell_four(out, 0, arrival, used, roads as u64);
-            0
-        }
-        Answer::NoWay(used) => {
-            tell_two(out, 1, used);
-            0
-        }
-        Answer::Open(lower, upper, used) => match upper {
-            Some(most) => {
-                tell_five(out, 2, lower, 1, most, used);
-                0
-            }
-            None => {
-                tell_five(out, 2, lower, 0, 0, used);
-                0
-            }
-        },
-        Answer::Refused(number, place) => {
-            tell(out, place);
-            number
-        }
+    match reply {
+        Ok(Answer::Closed(arrival, used, roads)) => tell(out, &[0, arrival, used, roads as u64]),
+        Ok(Answer::NoWay(used)) => tell(out, &[1, used]),
+        Ok(Answer::Open(lower, Some(most), used)) => tell(out, &[2, lower, 1, most, used]),
+        Ok(Answer::Open(lower, None, used)) => tell(out, &[2, lower, 0, 0, used]),
+        Err(why) => refuse(out, why),
     }
 }
 
@@ -55,6 +39,6 @@ pub extern "C" fn bf_search(
     if out.len() < 8 {
         return 9;
     }
-    let answer = search::search(v, from, to, departure, budget, work, path);
-    tell_answer(answer, out)
+    let reply = search::search(v, from, to, departure, budget, work, path);
+    tell_answer(reply, out)
 }

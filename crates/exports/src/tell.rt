@@ -1,43 +1,24 @@
-// Writing values to the first places of the list `out` that a host lends.
+// Writing an answer to the first places of the list `out` that a host lends.
 ghost use Rattle.std.specs.Prelude.{◌≡◌, ◌≤◌, [], ◌∷◌, length};
+ghost use Rattle.block.specs.Refusal.{number_of, place_of};
 ghost use Rattle.exports.specs.Told.{with_first};
 
-// Writes a to the first place.
-pub fn tell(out: &mut [u64], a: u64)
-    requires { 8 ≤ length out.old }
-    ensures { out.new ≡ with_first (a ∷ []) out.old }
+use block::refusal::Refusal;
+
+// Writes the values to the first places, and answers 0: not refused.
+pub fn tell(out: &mut [u64], values: &[u64]) -> u32
+    requires { length values.now ≤ length out.old }
+    ensures { (result ≡ 0) × (out.new ≡ with_first values.now out.old) }
 {
-    out[0] = a;
+    out[..values.len()].copy_from_slice(values);
+    0
 }
 
-// Writes two numbers to the first places.
-pub fn tell_two(out: &mut [u64], a: u64, b: u64)
-    requires { 8 ≤ length out.old }
-    ensures { out.new ≡ with_first (a ∷ b ∷ []) out.old }
+// Writes the refusal's place to the first place, and answers its number.
+pub fn refuse(out: &mut [u64], why: Refusal) -> u32
+    requires { 1 ≤ length out.old }
+    ensures { (result ≡ number_of why) × (out.new ≡ with_first (place_of why ∷ []) out.old) }
 {
-    out[0] = a;
-    out[1] = b;
-}
-
-// Writes four numbers to the first places.
-pub fn tell_four(out: &mut [u64], a: u64, b: u64, c: u64, d: u64)
-    requires { 8 ≤ length out.old }
-    ensures { out.new ≡ with_first (a ∷ b ∷ c ∷ d ∷ []) out.old }
-{
-    out[0] = a;
-    out[1] = b;
-    out[2] = c;
-    out[3] = d;
-}
-
-// Writes five numbers to the first places.
-pub fn tell_five(out: &mut [u64], a: u64, b: u64, c: u64, d: u64, e: u64)
-    requires { 8 ≤ length out.old }
-    ensures { out.new ≡ with_first (a ∷ b ∷ c ∷ d ∷ e ∷ []) out.old }
-{
-    out[0] = a;
-    out[1] = b;
-    out[2] = c;
-    out[3] = d;
-    out[4] = e;
+    out[0] = why.place();
+    why.number()
 }

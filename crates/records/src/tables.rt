@@ -2,6 +2,8 @@
 ghost use Rattle.std.specs.Prelude.{◌≡◌, ◌+◌, ◌*◌, ◌^◌, ◌<◌};
 ghost use Rattle.records.specs.Format.{Few, tables_of, words_in};
 
+use std::fmt;
+
 // How many content words the head, a road, a point, an edge and a piece have: said here and in specs/Format.antt, and nowhere else.
 pub(crate) const HEAD_WORDS: usize = 6;
 
@@ -23,6 +25,22 @@ pub struct Counts {
     pub points: usize,
     pub edges: usize,
     pub pieces: usize,
+}
+
+impl fmt::Display for Counts {
+    fn fmt<W: fmt::Write>(&self, f: &mut fmt::Formatter<W>) -> fmt::Result {
+        let Counts {
+            junctions,
+            roads,
+            points,
+            edges,
+            pieces,
+        } = *self;
+        write!(
+            f,
+            "junctions {junctions} roads {roads} points {points} edges {edges} pieces {pieces}"
+        )
+    }
 }
 
 // Where the tables of points, edges and pieces begin, as content words.

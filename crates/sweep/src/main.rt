@@ -9,7 +9,7 @@ use std::fmt::{self, Display};
 use std::io;
 use telling::line::{heading, told};
 use telling::networks::{ferry, hill, ring, sample};
-use telling::say::Said;
+use telling::say::{Found, Said};
 
 mod bare;
 
@@ -62,10 +62,12 @@ fn compare(v: &[u8], trip: Trip) -> Seen {
     let bare = trip.arrival(v);
     let a = search(v, from, to, departure, u32::MAX, &mut work, &mut path);
     match a {
-        Answer::Closed(at, _, n) if bare == Some(at) && trip.driven(v, &path[..n]) == Some(at) => {
+        Ok(Answer::Closed(at, _, n))
+            if bare == Some(at) && trip.driven(v, &path[..n]) == Some(at) =>
+        {
             Seen::Arrives
         }
-        Answer::NoWay(_) if bare.is_none() => Seen::NoWay,
+        Ok(Answer::NoWay(_)) if bare.is_none() => Seen::NoWay,
         _ => Seen::Differs,
     }
 }
@@ -116,7 +118,7 @@ fn compare_all(v: &[u8]) -> Tally {
 
 // The lines of a volume: is it full, and how did the questions come out?
 fn swept(rt: &impl Print, label: &str, v: &[u8]) -> io::Result<()> {
-    told(rt, label, Said(check(v)), "full")?;
+    told(rt, label, Said(check(v).map(Found)), "full")?;
     told(rt, label, compare_all(v), "0 differ")
 }
 

@@ -1,7 +1,8 @@
 // The lines of the trials: what was asked, what came out, and what should.
 ghost use Rattle.telling.specs.Room.{RoadsFit};
 
-use crate::say::{closed, report};
+use crate::say;
+use block::refusal::Refusal;
 use search::Answer;
 use std::fmt::{self, Display};
 use std::io;
@@ -50,17 +51,14 @@ impl Display for Question {
 pub fn asked(
     rt: &impl Print,
     question: Question,
-    answer: Answer,
+    reply: Result<Answer, Refusal>,
     path: &[u32],
     line: &str,
 ) -> io::Result<()>
-    requires { RoadsFit answer path.now }
+    requires { RoadsFit reply path.now }
     ensures { Unit {0} }
 {
     print!(rt; "{question}: ")?;
-    match answer {
-        Answer::Closed(arrival, used, roads) => closed(rt, arrival, used, &path[..roads])?,
-        other => report(rt, other)?,
-    }
+    say::reply(rt, reply, path)?;
     println!(rt; "; should be {line}")
 }

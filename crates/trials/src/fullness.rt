@@ -4,11 +4,11 @@ use std::io;
 use telling::line::{heading, told};
 use telling::networks::sample;
 use telling::page::one_block;
-use telling::say::Said;
+use telling::say::{Found, Said};
 
 // The line of the full check of v.
 fn checked(rt: &impl Print, label: &str, v: &[u8], line: &str) -> io::Result<()> {
-    told(rt, label, Said(check(v)), line)
+    told(rt, label, Said(check(v).map(Found)), line)
 }
 
 // The sample with other pieces of edge 2, and with no edge 2.

@@ -20,11 +20,14 @@ fn sums(rt: &impl Print, first: u32, line: &str) -> io::Result<()> {
     )
 }
 
+// The line of sealing v.
+fn seals(rt: &impl Print, label: &str, v: &mut [u8], line: &str) -> io::Result<()> {
+    told(rt, label, Said(seal(v).map(|()| "sealed")), line)
+}
+
 fn lengths(rt: &impl Print) -> io::Result<()> {
-    let mut v = [0u8; 512];
-    told(rt, "512 bytes", Said(seal(&mut v)), "sealed")?;
-    let mut v = [0u8; 511];
-    told(rt, "511 bytes", Said(seal(&mut v)), "refused 1 0")
+    seals(rt, "512 bytes", &mut [0u8; 512], "sealed")?;
+    seals(rt, "511 bytes", &mut [0u8; 511], "refused 1 0")
 }
 
 pub(crate) fn sealing(rt: &impl Print) -> io::Result<()> {

@@ -1,9 +1,10 @@
 // Travel times of the sample's roads and edges.
+use block::refusal::Refusal;
 use std::io;
 use telling::line::{heading, told};
 use telling::networks::sample;
 use telling::say::Said;
-use travel::{Timing, edge_time, road_time};
+use travel::{edge_time, road_time};
 
 // A road or an edge, a departure, and the seconds that it should take.
 type Case = (u32, u32, &'static str);
@@ -35,7 +36,7 @@ const EDGES: [Case; 10] = [
 ];
 
 // The lines of roads or edges, whose time is asked by `time`.
-fn timed<F: Fn(&[u8], u32, u32) -> Timing>(
+fn timed<F: Fn(&[u8], u32, u32) -> Result<u64, Refusal>>(
     rt: &impl Print,
     v: &[u8],
     what: &str,

@@ -1,12 +1,10 @@
 use mathlib.Core.Path.{ap, sym}
 use Rattle.exports.specs.Numbers.{timing_told}
-use Rattle.exports.specs.Told.{tells}
+use Rattle.exports.specs.Told.{tells_as}
 use Rattle.exports.proofs.tell_time.Goals as goal
 
-pub returns-in-Lasts : goal.returns-in-Lasts
-returns-in-Lasts c =
-    tells _ _ _ _ (ap timing_told (sym c.in-Lasts.is)) c.requires c.tell.ensures
+pub returns-in-Ok : goal.returns-in-Ok
+returns-in-Ok c = tells_as _ _ _ _ _ (ap timing_told (sym c.in-Ok.is)) c.requires c.tell.ensures
 
-pub returns-in-Refused : goal.returns-in-Refused
-returns-in-Refused c =
-    tells _ _ _ _ (ap timing_told (sym c.in-Refused.is)) c.requires c.tell-in-Refused.ensures
+pub returns-in-Err : goal.returns-in-Err
+returns-in-Err c = tells_as _ _ _ _ _ (ap timing_told (sym c.in-Err.is)) c.requires c.refuse.ensures

@@ -1,7 +1,7 @@
-use mathlib.Core.List.{[], ◌∷◌}
-use native.Mathlib.Omega.{arith}
-use Rattle.exports.specs.Told.{stored}
+use mathlib.Core.Path.{refl}
+use Rattle.exports.specs.Told.{with_first}
 use Rattle.exports.proofs.tell.tell.Goals as goal
 
 pub returns : goal.returns
-returns c = stored c.args.out.now (c.args.a ∷ []) (omega arith)
+unfolding with_first
+returns c = (refl, rw c.copy_from_slice.ensures.after refl)
