@@ -23,7 +23,7 @@ fn with_word(rt: &impl Print, label: &str, w: usize, x: u32, line: &str) -> io::
     let mut v = [0u8; 512];
     sample(&mut v);
     put(&mut v, w, x);
-    seal(&mut v);
+    let _ = seal(&mut v);
     opens(rt, label, &v, line)
 }
 
@@ -32,7 +32,7 @@ fn with_points(rt: &impl Print, t: u32, f: u32, u: u32, g: u32, line: &str) -> i
     let mut v = [0u8; 512];
     sample(&mut v);
     put_row(&mut v, 20, &[t, f, u, g]);
-    seal(&mut v);
+    let _ = seal(&mut v);
     opens(rt, format_args!("road 1 by {t} {f} and {u} {g}"), &v, line)
 }
 

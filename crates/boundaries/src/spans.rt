@@ -101,7 +101,7 @@ fn greatest(rt: &impl Print) -> io::Result<()> {
         pieces: 1072,
     };
     tables.put_all();
-    seal(&mut v);
+    let _ = seal(&mut v);
     opens(
         rt,
         "span 4096",
@@ -125,7 +125,7 @@ fn over(rt: &impl Print) -> io::Result<()> {
     tables.put_road(26, 12, 14);
     tables.put_edge(182, 12, 14, 26, EMPTY, 1);
     tables.put_edge(183, 13, 14, 181, 182, 4097);
-    seal(&mut v);
+    let _ = seal(&mut v);
     opens(rt, "span 4097", &v, "refused 6 183")
 }
 

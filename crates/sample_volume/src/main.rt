@@ -19,6 +19,6 @@ fn main(rt: HostRuntime) -> io::Result<()> {
     for (i, x) in WORDS.iter().enumerate() {
         block::put_word(&mut v, i, *x);
     }
-    block::seal(&mut v);
+    let _ = block::seal(&mut v);
     io::writer(&rt).write_all(&v)
 }

@@ -63,10 +63,7 @@ fn compare(v: &[u8], trip: Trip) -> Seen {
     let a = search(v, from, to, departure, u32::MAX, &mut work, &mut path);
     match a {
         Ok(Answer::Closed(at, _, n))
-            if bare == Some(at) && trip.driven(v, &path[..n]) == Some(at) =>
-        {
-            Seen::Arrives
-        }
+            if bare == Some(at) && trip.driven(v, &path[..n]) == Some(at) => { Seen::Arrives }
         Ok(Answer::NoWay(_)) if bare.is_none() => Seen::NoWay,
         _ => Seen::Differs,
     }

@@ -10,7 +10,7 @@ use Rattle.search.specs.declared.Answer.TheVariants.{Closed}
 
 -- where r is closed, the list p has a place for each of its roads
 abbrev pub RoadsFit : Reply → List ℕ → Type 0
-RoadsFit r p = (a n k : ℕ) → r ≡ Ok (Ok (Closed a n k)) → k ≤ length p
+RoadsFit r p = (a n k : ℕ) → r ≡ Ok (Closed a n k) → k ≤ length p
 
 -- so it is after every search
 pub roads_fit : {v : List ℕ} {from to x b : ℕ} {work path w p : List ℕ} {r : Reply} → Searched v from to x b work path r w p → RoadsFit r p

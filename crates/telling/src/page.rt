@@ -52,7 +52,7 @@ pub fn lay(v: &mut [u8], text: &str)
     for (w, number) in numbers.enumerate() {
         put(v, w, number.chars().fold(0, grown));
     }
-    seal(v);
+    let _ = seal(v);
 }
 
 // A volume of one block with the numbers of a text.

@@ -8,6 +8,7 @@ use std::fmt::{self, Display};
 use std::io;
 
 // What a function answered, or why it refused.
+#[derive(Clone, Copy)]
 pub struct Said<T>(pub Result<T, Refusal>);
 
 impl<T: Display> Display for Said<T> {

@@ -9,7 +9,7 @@ use telling::say::Said;
 fn sums(rt: &impl Print, first: u32, line: &str) -> io::Result<()> {
     let mut v = [0u8; 512];
     put(&mut v, 0, first);
-    seal(&mut v);
+    let _ = seal(&mut v);
     let a = word(&v, 126);
     let b = word(&v, 127);
     told(

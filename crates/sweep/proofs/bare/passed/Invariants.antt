@@ -1,8 +1,0 @@
-use Rattle.std.proofs.Common.{◌-◌, ◌≤◌}
-use Rattle.sweep.proofs.bare.passed.Given as goal
-
-abbrev pub invariant-loop-c : goal.invariant-loop-c
-invariant-loop-c l = l.c ≤ l.n
-
-abbrev pub decreases-loop-c : goal.decreases-loop-c
-decreases-loop-c l = l.n - l.c
