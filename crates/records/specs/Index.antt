@@ -1,16 +1,17 @@
 -- The edges of each junction, in rising order: the first edge that begins at a junction, and after each edge the next one that
 -- begins where it does. Made in one pass, so that nobody looks through all edges for those of one junction.
 use Prim.Native.Nat.{ℕ, suc, ◌+◌, ◌-◌, ◌≤◌, ◌<◌}
-use Rattle.std.specs.Prelude.{◌≡◌, refl, ◌≢◌, Bool, List, ◌++◌, length, get_or, set, drop, replicate, eqb}
-use Rattle.std.proofs.Common.{sym, ◌∙◌, add-one, length-append, length-drop, length-set, get_or-append-add, get_or-drop, get_or-set_same, get_or-set_other, eq-eqb, ne_eqb, eqb-true}
+use Rattle.std.specs.Prelude.{◌≡◌, refl, ◌≢◌, Bool, true, false, Option, Some, None, List, ◌++◌, length, get_or, set, drop, replicate, eqb, ltb}
+use Rattle.std.proofs.Common.{sym, ◌∙◌, add-one, length-append, length-drop, length-set, get_or-append-add, get_or-drop, get_or-set_same, get_or-set_other, eq-eqb, ne_eqb, eqb-true, ltb-true, ltb-false}
 use Rattle.std.proofs.Math.Path.{ap}
 use Rattle.std.proofs.Math.Bool.{not}
 use native.Mathlib.Omega.{arith}
+use Rattle.std.specs.Bool.{then_some}
 use Rattle.std.proofs.Math.Decide.{ℕ_discrete, dec_lt}
 use Rattle.std.proofs.lemmas.List.{length-replicate, get_or-replicate}
 use Rattle.std.proofs.Math.ListN.{get_or-append}
 use Rattle.std.proofs.lemmas.Bool.{eqb-false, not-true, not-false}
-use Rattle.block.specs.First.{first_not, FirstOf, first_from_lem, step_yes, step_no, first_none}
+use Rattle.block.specs.First.{Found, first_not, FirstOf, first_from_lem, step_yes, step_no, first_none}
 use Rattle.records.specs.Format.{Volume}
 
 -- the first edge from e on that begins at junction u, or E
@@ -31,6 +32,33 @@ pub record Indexed (vol : Volume) (first₀ next₀ first next : List ℕ) (k : 
   pub nexts_kept : (e : ℕ) → (k ≤ e → e < vol.edges → vol.edge_from e < vol.junctions → ⊥) → get_or next e 0 ≡ get_or next₀ e 0
   pub firsts_length : length first ≡ length first₀
   pub nexts_length : length next ≡ length next₀
+
+-- an entry e of the lists, which has k: the edge k, or none where k is E
+pub entry_found : (counted e k edges : ℕ) → counted ≡ edges → e ≡ k → k ≤ edges → Found (then_some (ltb e counted) e) k edges
+entry_found counted e k edges c is high = go (ltb e counted) (ltb-true e counted) (ltb-false e counted)
+  where
+    go : (t : Bool) → (t ≡ true → e < counted) → (t ≡ false → counted ≤ e) → Found (then_some t e) k edges
+    go true below above = (is, omega (arith, below refl))
+    go false below above = omega (arith, above refl)
+
+-- where a walk over the edges of a junction is: at an edge, or behind the last one
+abbrev pub place_of : Option ℕ → ℕ → ℕ
+place_of (Some e) edges = e
+place_of None edges = edges
+
+-- an edge that it is at is one of the volume
+abbrev pub Within : Option ℕ → ℕ → Type 0
+Within (Some e) edges = e < edges
+Within None edges = Unit {0}
+
+-- what is found is where the walk is
+pub found_place : (at : Option ℕ) (k edges : ℕ) → Found at k edges → place_of at edges ≡ k
+found_place (Some e) k edges f = f.0
+found_place None k edges f = sym f
+
+pub found_within : (at : Option ℕ) (k edges : ℕ) → Found at k edges → Within at edges
+found_within (Some e) k edges f = f.1
+found_within None k edges f = tt
 
 -- the finished index
 pub record Linked (vol : Volume) (first next : List ℕ) : Type 0 where

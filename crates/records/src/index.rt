@@ -1,6 +1,7 @@
 // The edges of each junction, in rising order, made in one pass for whoever would look through all
 // edges otherwise: opening, the full check and the search.
 ghost use Rattle.std.specs.Prelude.{◌≡◌, ◌+◌, ◌≤◌, ◌<◌, length};
+ghost use Rattle.block.specs.First.{Found};
 ghost use Rattle.records.specs.Format.{volume_of};
 ghost use Rattle.records.specs.Index.{Indexed, Linked, next_from};
 
@@ -33,20 +34,22 @@ pub struct Index<'a> {
 }
 
 impl Index<'_> {
-    // The first edge from junction u, or E.
-    pub fn first(&self, u: usize) -> usize
+    // The first edge from junction u.
+    pub fn first(&self, u: usize) -> Option<usize>
         requires { u < (volume_of self.now.records.bytes.now).junctions }
-        ensures { result ≡ next_from (volume_of self.now.records.bytes.now) u 0 }
+        ensures { Found result (next_from (volume_of self.now.records.bytes.now) u 0) (volume_of self.now.records.bytes.now).edges }
     {
-        self.first[u] as usize
+        let e = self.first[u] as usize;
+        (e < self.records.counts.edges).then_some(e)
     }
 
-    // The edge after e from the same junction, or E.
-    pub fn next(&self, e: usize) -> usize
+    // The edge after e from the same junction.
+    pub fn next(&self, e: usize) -> Option<usize>
         requires e_bound { e < (volume_of self.now.records.bytes.now).edges }
         requires from_bound { (volume_of self.now.records.bytes.now).edge_from e < (volume_of self.now.records.bytes.now).junctions }
-        ensures { result ≡ next_from (volume_of self.now.records.bytes.now) ((volume_of self.now.records.bytes.now).edge_from e) (e + 1) }
+        ensures { Found result (next_from (volume_of self.now.records.bytes.now) ((volume_of self.now.records.bytes.now).edge_from e) (e + 1)) (volume_of self.now.records.bytes.now).edges }
     {
-        self.next[e] as usize
+        let e = self.next[e] as usize;
+        (e < self.records.counts.edges).then_some(e)
     }
 }

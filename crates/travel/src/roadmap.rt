@@ -1,5 +1,6 @@
 // A volume for whoever walks it from edge to edge: the edges of each junction, and the times.
 ghost use Rattle.std.specs.Prelude.{◌≡◌, ◌+◌, ◌<◌};
+ghost use Rattle.block.specs.First.{Found};
 ghost use Rattle.records.specs.Format.{volume_of};
 ghost use Rattle.records.specs.Index.{Linked, next_from};
 
@@ -36,19 +37,19 @@ impl Roadmap<'_> {
         }
     }
 
-    // The first edge from junction u, or E.
-    pub fn first(&self, u: usize) -> usize
+    // The first edge from junction u.
+    pub fn first(&self, u: usize) -> Option<usize>
         requires { u < (volume_of self.now.times.opened.records.bytes.now).junctions }
-        ensures { result ≡ next_from (volume_of self.now.times.opened.records.bytes.now) u 0 }
+        ensures { Found result (next_from (volume_of self.now.times.opened.records.bytes.now) u 0) (volume_of self.now.times.opened.records.bytes.now).edges }
     {
         self.index().first(u)
     }
 
-    // The edge after e from the same junction, or E.
-    pub fn next(&self, e: usize) -> usize
+    // The edge after e from the same junction.
+    pub fn next(&self, e: usize) -> Option<usize>
         requires e_bound { e < (volume_of self.now.times.opened.records.bytes.now).edges }
         requires from_bound { (volume_of self.now.times.opened.records.bytes.now).edge_from e < (volume_of self.now.times.opened.records.bytes.now).junctions }
-        ensures { result ≡ next_from (volume_of self.now.times.opened.records.bytes.now) ((volume_of self.now.times.opened.records.bytes.now).edge_from e) (e + 1) }
+        ensures { Found result (next_from (volume_of self.now.times.opened.records.bytes.now) ((volume_of self.now.times.opened.records.bytes.now).edge_from e) (e + 1)) (volume_of self.now.times.opened.records.bytes.now).edges }
     {
         self.index().next(e)
     }

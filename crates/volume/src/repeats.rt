@@ -31,12 +31,15 @@ fn repeat_from(index: &Index<'_>, u: usize, stamps: &mut [u16], least: usize) ->
 {
     let n = index.records.counts.junctions;
     let stamp = (u + 1) as u16;
-    let mut e = index.first(u);
-    while e < least {
+    let mut at = index.first(u);
+    while let Some(e) = at {
+        if least <= e {
+            return least;
+        }
         if stamp_on(stamps, n, index.records.edge(e).to, stamp) {
             return e;
         }
-        e = index.next(e);
+        at = index.next(e);
     }
     least
 }
