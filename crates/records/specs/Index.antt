@@ -247,3 +247,19 @@ module _ (vol : Volume) (first₀ next₀ first next : List ℕ) (k e from : ℕ
             → get_or next d 0 ≡ next_from vol (vol.edge_from d) (d + 1)
         later d h l b (yes z) = absurd (let q = ap vol.edge_from z in omega arith)
         later d h l b (no ne) = I.nexts d (omega arith) l b
+
+-- a walk over the edges of u goes on from edge e
+pub record Onward (vol : Volume) (u e : ℕ) (at : Option ℕ) : Type 0 where
+  pub within : Within at vol.edges
+  pub place : place_of at vol.edges ≡ next_from vol u (e + 1)
+  pub nearer : vol.edges - place_of at vol.edges < vol.edges - e
+
+pub walk_on : (vol : Volume) (u e : ℕ) (at : Option ℕ) → e < vol.edges → vol.edge_from e ≡ u
+    → Found at (next_from vol (vol.edge_from e) (e + 1)) vol.edges → Onward vol u e at
+walk_on vol u e at lt from found =
+    let here : place_of at vol.edges ≡ next_from vol u (e + 1) = found_place at _ vol.edges found ∙ ap (λ (w : ℕ). next_from vol w (e + 1)) from in
+    record {
+      within = found_within at _ vol.edges found;
+      place = here;
+      nearer = omega (arith, here, next_low vol u (e + 1) (omega arith));
+    }
