@@ -1,7 +1,7 @@
 -- How the edges cover a road, or two edges in turn: document 01, "Full". What is to be covered is a `Piece` of the theory, so that
 -- roads and pairs have one definition: no edge with its two ends, or the first second at which that edge is late. Which roads and
 -- pairs are to be covered, and in which order, is in Fault.
-use Rattle.std.specs.Prelude.{ℕ, ◌<◌, ◌≡◌, Bool, Option, Some, None, not, eqb, leb}
+use Rattle.std.specs.Prelude.{ℕ, Bool, Option, Some, None, not, eqb, leb}
 use Rattle.block.specs.Choose.{choose, both}
 use Rattle.block.specs.First.{first_not}
 use Rattle.theory.specs.Network.{Piece, road_of, pair_of, by_piece, edge_arr}

@@ -25,13 +25,12 @@ fn find_edge(map: &Roadmap<'_>, u: usize, w: usize) -> Option<usize>
     requires { u < (volume_of map.now.times.opened.records.bytes.now).junctions }
     ensures { Found result (edge_with (volume_of map.now.times.opened.records.bytes.now) u w) (volume_of map.now.times.opened.records.bytes.now).edges }
 {
-    let records = &map.times.opened.records;
-    let mut e = map.first(u);
-    while e < records.counts.edges {
-        if records.edge(e).to == w {
-            return Some(e);
+    let mut at = map.first(u);
+    while let Some(e) = at {
+        if map.times.opened.records.edge(e).to == w {
+            return at;
         }
-        e = map.next(e);
+        at = map.next(e);
     }
     None
 }

@@ -92,18 +92,17 @@ fn rights_fault(map: &Roadmap<'_>, l: usize) -> Option<Fault>
     requires { l < (volume_of map.now.times.opened.records.bytes.now).edges }
     ensures { result ≡ rights_fault (volume_of map.now.times.opened.records.bytes.now) l }
 {
-    let records = &map.times.opened.records;
-    let left = records.edge(l);
+    let left = map.times.opened.records.edge(l);
     let m = left.to;
     if left.from <= m {
         return None;
     }
-    let mut r = map.first(m);
-    while r < records.counts.edges {
+    let mut at = map.first(m);
+    while let Some(r) = at {
         if let Some(fault) = pair_fault(map, l, left.from, m, r) {
             return Some(fault);
         }
-        r = map.next(r);
+        at = map.next(r);
     }
     None
 }

@@ -1,37 +1,37 @@
-use Rattle.std.proofs.Common.{ℕ, ◌+◌, ◌<◌, ap, sym, ◌∙◌, arith}
+use Rattle.std.proofs.Common.{sym, ◌∙◌, arith}
 use Rattle.records.specs.Format.{volume_of}
-use Rattle.records.specs.Index.{next_from, next_low, none_first, none_next}
+use Rattle.records.specs.Index.{found_place, found_within, walk_on, none_first, none_next}
 use Rattle.full.specs.CoverFound.{edge_found, edge_none}
 use Rattle.full.proofs.cover.find_edge.Goals as goal
 
-pub loop-e-init : goal.loop-e-init
-loop-e-init c = none_first (volume_of c.args.map.now.times.opened.records.bytes.now) c.args.u c.args.w _ c.first-e.ensures
+pub loop-at-init : goal.loop-at-init
+loop-at-init c =
+    let vol = volume_of c.args.map.now.times.opened.records.bytes.now in
+    let found = c.first-at.ensures in
+    (found_within _ _ _ found, none_first vol c.args.u c.args.w _ (found_place _ _ _ found))
 
 pub returns-then-edge-w : goal.returns-then-edge-w
 returns-then-edge-w c =
-    let r = c.args.map.now.times.opened.records in
-    let lt : c.loop-e.e < (volume_of r.bytes.now).edges = omega (arith, r.counted.edges) in
-    (edge_found (volume_of r.bytes.now) c.args.u c.args.w c.loop-e.e lt c.loop-e.invariant (sym c.edge.ensures.to ∙ c.if-edge-w.true), lt)
+    let vol = volume_of c.args.map.now.times.opened.records.bytes.now in
+    let at = rw c.in-Some.is at c.loop-at.invariant in
+    (edge_found vol c.args.u c.args.w c.in-Some.e at.0 at.1 (sym c.edge.ensures.to ∙ c.if-edge-w.true), at.0)
 
-pub loop-e-smaller : goal.loop-e-smaller
-loop-e-smaller c =
-    let r = c.args.map.now.times.opened.records in
-    let vol = volume_of r.bytes.now in
-    let lt : c.loop-e.e < vol.edges = omega (arith, r.counted.edges) in
-    let e = c.next-e.ensures ∙ ap (λ (u : ℕ). next_from vol u (c.loop-e.e + 1)) (c.loop-e.invariant.begins_there lt) in
-    let low = next_low vol c.args.u (c.loop-e.e + 1) (omega arith) in
-    omega arith
+pub loop-at-smaller : goal.loop-at-smaller
+loop-at-smaller c =
+    let vol = volume_of c.args.map.now.times.opened.records.bytes.now in
+    let at = rw c.in-Some.is at c.loop-at.invariant in
+    let on = walk_on vol c.args.u c.in-Some.e c.next-at.result at.0 (at.1.begins_there at.0) c.next-at.ensures in
+    rw c.in-Some.is on.nearer
 
-pub loop-e-preserved : goal.loop-e-preserved
-loop-e-preserved c =
-    let r = c.args.map.now.times.opened.records in
-    let vol = volume_of r.bytes.now in
-    let lt : c.loop-e.e < vol.edges = omega (arith, r.counted.edges) in
-    none_next vol c.args.u c.args.w c.loop-e.e _ lt c.loop-e.invariant (λ z. c.if-edge-w.false (c.edge.ensures.to ∙ z))
-    (c.next-e.ensures ∙ ap (λ (u : ℕ). next_from vol u (c.loop-e.e + 1)) (c.loop-e.invariant.begins_there lt))
+pub loop-at-preserved : goal.loop-at-preserved
+loop-at-preserved c =
+    let vol = volume_of c.args.map.now.times.opened.records.bytes.now in
+    let at = rw c.in-Some.is at c.loop-at.invariant in
+    let on = walk_on vol c.args.u c.in-Some.e c.next-at.result at.0 (at.1.begins_there at.0) c.next-at.ensures in
+    (on.within, none_next vol c.args.u c.args.w c.in-Some.e _ at.0 at.1 (λ z. c.if-edge-w.false (c.edge.ensures.to ∙ z)) on.place)
 
 pub returns : goal.returns
 returns c =
-    let r = c.args.map.now.times.opened.records in
-    let none = edge_none (volume_of r.bytes.now) c.args.u c.args.w c.loop-e.e (omega (arith, r.counted.edges)) c.loop-e.invariant in
-    omega (arith, c.loop-e.invariant.inside, r.counted.edges)
+    let vol = volume_of c.args.map.now.times.opened.records.bytes.now in
+    let at = rw c.in_default.is at c.loop-at.invariant in
+    sym (edge_none vol c.args.u c.args.w vol.edges (omega arith) at.1)
