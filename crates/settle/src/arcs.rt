@@ -115,10 +115,10 @@ fn offer_arcs(
     let counts = map.times.opened.records.counts;
     let u = place(counts.junctions, s);
     let mut front = offer_turn(counts.junctions, marks, s, arrival, head, work);
-    let mut e = map.first(u);
-    while e < counts.edges {
+    let mut at = map.first(u);
+    while let Some(e) = at {
         front = offer_edge(map, marks, s, e, arrival, front, work);
-        e = map.next(e);
+        at = map.next(e);
     }
     front
 }

@@ -16,15 +16,15 @@ fn mark_of(map: &Roadmap<'_>, to: usize, u: usize, marks: &[bool]) -> bool
         return true;
     }
     let records = &map.times.opened.records;
-    let mut e = map.first(u);
-    while e < records.counts.edges {
+    let mut at = map.first(u);
+    while let Some(e) = at {
         let w = records.edge(e).to;
         if w < u {
             if marks[w] {
                 return true;
             }
         }
-        e = map.next(e);
+        at = map.next(e);
     }
     false
 }

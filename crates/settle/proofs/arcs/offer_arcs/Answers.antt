@@ -1,59 +1,55 @@
-use Prim.Native.Nat.{ℕ, ◌+◌, ◌<◌}
-use mathlib.Core.Path.{◌≡◌, refl, ◌∙◌, ap}
+use Prim.Native.Nat.{ℕ, ◌+◌}
+use mathlib.Core.Path.{refl, ◌∙◌, ap}
 use native.Mathlib.Omega.{arith}
 use Rattle.settle.specs.Edges.{on_walk}
 use Rattle.settle.specs.Walk.{turn_offered, walk_begins, walk_more, walk_ends}
 use Rattle.settle.specs.Arcs.{place_of, place_below}
-use Rattle.records.specs.Index.{next_low, next_from}
+use Rattle.records.specs.Index.{found_place, found_within, walk_on}
 use Rattle.records.specs.Format.{volume_of}
 use Rattle.settle.proofs.arcs.offer_arcs.Goals as goal
 
-pub first-e-requires : goal.first-e-requires
-first-e-requires c =
+pub first-at-requires : goal.first-at-requires
+first-at-requires c =
     let R = c.args.map.now.times.opened.records in
     let below = place_below R.counts.junctions c.args.s c.requires.s_bound.1 in
     omega (arith, c.place-u.ensures, R.counted.junctions)
 
-pub loop-e-init : goal.loop-e-init
-loop-e-init c =
+pub loop-at-init : goal.loop-at-init
+loop-at-init c =
     let p = c.place-u in
     let vol = volume_of c.args.map.now.times.opened.records.bytes.now in
     let R = c.args.map.now.times.opened.records in
-    let below = place_below R.counts.junctions c.args.s c.requires.s_bound.1 in
     let u = p.result in
-    let is = c.first-e.ensures in (
+    let found = c.first-at.ensures in
+    let is = found_place _ _ _ found in (
+      found_within _ _ _ found,
       on_walk vol u 0 _ (omega arith) is,
       refl,
       λ d m L q. walk_begins vol d c.args.s c.args.arrival u (p.ensures ∙ ap (λ (n : ℕ). place_of n c.args.s) R.counted.junctions) L _ _ q is,
       λ C. C,
     )
 
-pub loop-e-smaller : goal.loop-e-smaller
-loop-e-smaller c =
+pub loop-at-smaller : goal.loop-at-smaller
+loop-at-smaller c =
     let vol = volume_of c.args.map.now.times.opened.records.bytes.now in
-    let p = c.place-u in
-    let R = c.args.map.now.times.opened.records in
-    let below = place_below R.counts.junctions c.args.s c.requires.s_bound.1 in
-    let e = c.loop-e.e in
-    let lt : e < vol.edges = omega (arith, c.loop-e-test.true, R.counted.edges) in
-    let is = (c.next-e.ensures ∙ ap (λ (w : ℕ). next_from vol w (e + 1)) (c.loop-e.invariant.0.begins lt)) in
-    let low = next_low vol p.result (e + 1) (omega arith) in
-    omega (arith, c.loop-e-test.true)
+    let at = rw c.in-Some.is at c.loop-at.invariant in
+    let on = walk_on vol c.place-u.result c.in-Some.e _ at.0 (at.1.begins at.0) c.next-at.ensures in
+    rw c.in-Some.is on.nearer
 
-pub loop-e-preserved : goal.loop-e-preserved
-loop-e-preserved c =
+pub loop-at-preserved : goal.loop-at-preserved
+loop-at-preserved c =
     let vol = volume_of c.args.map.now.times.opened.records.bytes.now in
     let p = c.place-u in
     let R = c.args.map.now.times.opened.records in
-    let below = place_below R.counts.junctions c.args.s c.requires.s_bound.1 in
-    let e = c.loop-e.e in
-    let lt : e < vol.edges = omega (arith, c.loop-e-test.true, R.counted.edges) in
-    let is = (c.next-e.ensures ∙ ap (λ (w : ℕ). next_from vol w (e + 1)) (c.loop-e.invariant.0.begins lt)) in
+    let e = c.in-Some.e in
+    let at = rw c.in-Some.is at c.loop-at.invariant in
+    let on = walk_on vol p.result e _ at.0 (at.1.begins at.0) c.next-at.ensures in
     let one = c.offer_edge-front in (
-      on_walk vol p.result (e + 1) _ (omega arith) is,
-      omega (arith, one.auto.work, c.loop-e.invariant.1),
-      λ d m L q. walk_more vol d c.args.s c.args.arrival p.result (p.ensures ∙ ap (λ (n : ℕ). place_of n c.args.s) R.counted.junctions) L _ e _ c.loop-e.work _ lt is (c.loop-e.invariant.2 d m L q) (one.ensures.does d m),
-      λ C. one.ensures.rechained (c.loop-e.invariant.3 C),
+      on.within,
+      on_walk vol p.result (e + 1) _ (omega arith) on.place,
+      omega (arith, one.auto.work, at.2),
+      λ d m L q. walk_more vol d c.args.s c.args.arrival p.result (p.ensures ∙ ap (λ (n : ℕ). place_of n c.args.s) R.counted.junctions) L _ e _ c.loop-at.work _ at.0 on.place (at.3 d m L q) (one.ensures.does d m),
+      λ C. one.ensures.rechained (at.4 C),
     )
 
 pub returns-clause-does : goal.returns-clause-does
@@ -61,7 +57,7 @@ returns-clause-does c =
     let vol = volume_of c.args.map.now.times.opened.records.bytes.now in
     let R = c.args.map.now.times.opened.records in
     let t = c.offer_turn-front in
-    let end : c.loop-e.e ≡ vol.edges = omega (arith, c.loop-e-test.false, c.loop-e.invariant.0.high, R.counted.edges) in
-    λ d m. walk_ends vol d c.args.s c.args.arrival c.loop-e.e c.args.work.now _ _ end
+    let at = rw c.in_default.is at c.loop-at.invariant in
+    λ d m. walk_ends vol d c.args.s c.args.arrival vol.edges c.args.work.now _ _ refl
     (turn_offered vol d c.args.s c.args.arrival R.counts.junctions c.args.head c.args.marks.now c.args.work.now _ R.counted.junctions c.requires.arrival_bound.1 m t.ensures.work_after)
-    (c.loop-e.invariant.2 d m)
+    (at.3 d m)

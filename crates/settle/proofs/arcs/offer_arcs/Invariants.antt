@@ -7,17 +7,23 @@ use Rattle.settle.specs.Chain.{Rechained}
 use Rattle.settle.specs.Marked.{MarksBelow}
 use Rattle.settle.specs.Work.{labels, Holds}
 use Rattle.records.specs.Format.{volume_of}
+use Rattle.records.specs.Index.{Within, place_of as edge_place}
 use Rattle.theory.specs.Settling.{Table, relax}
 use Rattle.settle.proofs.arcs.offer_arcs.Given as goal
 
-abbrev pub invariant-loop-e : goal.invariant-loop-e
-invariant-loop-e l =
-    OnWalk (volume_of l.map.times.opened.records.bytes.now) l.u l.e
+abbrev pub invariant-loop-at : goal.invariant-loop-at
+invariant-loop-at l =
+    let vol = volume_of l.map.times.opened.records.bytes.now in
+    let e = edge_place l.at vol.edges in
+    Within l.at vol.edges
+    × OnWalk vol l.u e
     × (length l.work ≡ length l.initial.work)
-    × ((d : ℕ) → MarksBelow (volume_of l.map.times.opened.records.bytes.now) d (volume_of l.map.times.opened.records.bytes.now).junctions l.marks → (L : Table)
-    → labels (states_of (volume_of l.map.times.opened.records.bytes.now)) l.initial.work ≡ relax (web_of (volume_of l.map.times.opened.records.bytes.now) d) l.s l.arrival 1 L
-    → Holds (states_of (volume_of l.map.times.opened.records.bytes.now)) l.initial.work l.work (relax (web_of (volume_of l.map.times.opened.records.bytes.now) d) l.s l.arrival (suc l.e) L))
-    × Rechained (l.counts.junctions + l.counts.junctions) l.initial.work l.initial.front l.work l.front
+    × ((d : ℕ) → MarksBelow vol d vol.junctions l.marks → (L : Table)
+    → labels (states_of vol) l.initial.work ≡ relax (web_of vol d) l.s l.arrival 1 L
+    → Holds (states_of vol) l.initial.work l.work (relax (web_of vol d) l.s l.arrival (suc e) L))
+    × Rechained (l.map.times.opened.records.counts.junctions + l.map.times.opened.records.counts.junctions) l.initial.work l.initial.front l.work l.front
 
-abbrev pub decreases-loop-e : goal.decreases-loop-e
-decreases-loop-e l = l.counts.edges - l.e
+abbrev pub decreases-loop-at : goal.decreases-loop-at
+decreases-loop-at l =
+    let edges = (volume_of l.map.times.opened.records.bytes.now).edges in
+    edges - edge_place l.at edges

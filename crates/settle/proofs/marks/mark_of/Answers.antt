@@ -1,13 +1,12 @@
-use Prim.Native.Nat.{ℕ, ◌+◌, ◌<◌}
+use Prim.Native.Nat.{ℕ, ◌+◌}
 use mathlib.Core.Path.{◌≡◌, sym, ◌∙◌, ap}
 use mathlib.Core.Bool.{false}
 use native.Mathlib.Omega.{arith}
 use borrow.Author.Count.{below_more}
-use borrow.Author.Rules.{rules}
 use Rattle.settle.specs.Edges.{on_walk, walk_none}
 use Rattle.settle.specs.Marked.{falls, falls_away, falls_high, falls_unmarked, mark_destination, mark_above, mark_missing}
 use Rattle.travel.specs.Network.{network_of}
-use Rattle.records.specs.Index.{next_low, next_from}
+use Rattle.records.specs.Index.{found_place, found_within, walk_on}
 use Rattle.records.specs.Format.{volume_of}
 use Rattle.theory.specs.Marks.{marked}
 use Rattle.settle.proofs.marks.mark_of.Goals as goal
@@ -18,11 +17,13 @@ returns-then-u-to c =
     let a = c.args in
     mark_destination (volume_of a.map.now.times.opened.records.bytes.now) a.to a.u c.if-u-to.true
 
-pub loop-e-init : goal.loop-e-init
-loop-e-init c =
+pub loop-at-init : goal.loop-at-init
+loop-at-init c =
     let vol = volume_of c.args.map.now.times.opened.records.bytes.now in
     let u = c.args.u in
-    let is = c.first-e.ensures in (
+    let found = c.first-at.ensures in
+    let is = found_place _ _ _ found in (
+      found_within _ _ _ found,
       on_walk vol u 0 _ (omega arith) is,
       walk_none vol u 0 _ (falls vol c.args.to u) (omega arith) is (falls_away vol c.args.to u) (λ j h. absurd (omega arith)),
     )
@@ -31,37 +32,37 @@ pub returns-then-marks-w : goal.returns-then-marks-w
 returns-then-marks-w c =
     let vol = volume_of c.args.map.now.times.opened.records.bytes.now in
     let to = c.edge-w.ensures.to in
-    let lt : c.loop-e.e < vol.edges = search rules in
+    let at = rw c.in-Some.is at c.loop-at.invariant in
     let below = c.if-w-u.true in
-    mark_above vol c.args.to c.args.u c.loop-e.e lt (c.loop-e.invariant.0.begins lt) (omega arith)
+    mark_above vol c.args.to c.args.u c.in-Some.e at.0 (at.1.begins at.0) (omega arith)
     (sym (ap (marked (network_of vol) c.args.to) to) ∙ sym (c.requires.marks_below _ below) ∙ c.if-marks-w.true)
 
-pub loop-e-smaller : goal.loop-e-smaller
-loop-e-smaller c =
+pub loop-at-smaller : goal.loop-at-smaller
+loop-at-smaller c =
     let vol = volume_of c.args.map.now.times.opened.records.bytes.now in
-    let lt : c.loop-e.e < vol.edges = search rules in
-    let e = (c.next-e.ensures ∙ ap (λ (w : ℕ). next_from vol w (c.loop-e.e + 1)) (c.loop-e.invariant.0.begins lt)) in
-    let low = next_low vol c.args.u (c.loop-e.e + 1) (omega arith) in
-    omega arith
+    let at = rw c.in-Some.is at c.loop-at.invariant in
+    let on = walk_on vol c.args.u c.in-Some.e _ at.0 (at.1.begins at.0) c.next-at.ensures in
+    rw c.in-Some.is on.nearer
 
-pub loop-e-preserved : goal.loop-e-preserved
-loop-e-preserved c =
+pub loop-at-preserved : goal.loop-at-preserved
+loop-at-preserved c =
     let vol = volume_of c.args.map.now.times.opened.records.bytes.now in
     let d = c.args.to in
     let u = c.args.u in
-    let e = c.loop-e.e in
-    let lt : e < vol.edges = search rules in
-    let from = c.loop-e.invariant.0.begins lt in
+    let e = c.in-Some.e in
+    let at = rw c.in-Some.is at c.loop-at.invariant in
+    let from = at.1.begins at.0 in
     let to = c.edge-w.ensures.to in
-    let is = (c.next-e.ensures ∙ ap (λ (w : ℕ). next_from vol w (e + 1)) from) in
+    let on = walk_on vol u e _ at.0 from c.next-at.ensures in
     let here : falls vol d u e ≡ false = elim c.if-w-u.branch [
       | then-w-u+else-marks-w w ↦ falls_unmarked vol d u e from (omega (arith, w.if-w-u.true)) (sym (ap (marked (network_of vol) d) to) ∙ sym (c.requires.marks_below _ w.if-w-u.true) ∙ w.if-marks-w.false)
       | else-w-u w ↦ falls_high vol d u e from (omega (arith, w.if-w-u.false))
     ] in (
-      on_walk vol u (e + 1) _ (omega arith) is,
-      walk_none vol u (e + 1) _ (falls vol d u) (omega arith) is (falls_away vol d u) (below_more (λ (j : ℕ). falls vol d u j ≡ false) e c.loop-e.invariant.1 here),
+      on.within,
+      on_walk vol u (e + 1) _ (omega arith) on.place,
+      walk_none vol u (e + 1) _ (falls vol d u) (omega arith) on.place (falls_away vol d u) (below_more (λ (j : ℕ). falls vol d u j ≡ false) e at.2 here),
     )
 
 pub returns : goal.returns
 returns c =
-    mark_missing (volume_of c.args.map.now.times.opened.records.bytes.now) c.args.to c.args.u c.if-u-to.false (λ e h. c.loop-e.invariant.1 e (omega arith))
+    mark_missing (volume_of c.args.map.now.times.opened.records.bytes.now) c.args.to c.args.u c.if-u-to.false (rw c.in_default.is at c.loop-at.invariant).2

@@ -4,10 +4,16 @@ use mathlib.Core.Bool.{false}
 use Rattle.settle.specs.Edges.{OnWalk}
 use Rattle.settle.specs.Marked.{falls}
 use Rattle.records.specs.Format.{volume_of}
+use Rattle.records.specs.Index.{Within, place_of}
 use Rattle.settle.proofs.marks.mark_of.Given as goal
 
-abbrev pub invariant-loop-e : goal.invariant-loop-e
-invariant-loop-e l = OnWalk (volume_of l.map.times.opened.records.bytes.now) l.u l.e × ((j : ℕ) → j < l.e → falls (volume_of l.map.times.opened.records.bytes.now) l.to l.u j ≡ false)
+abbrev pub invariant-loop-at : goal.invariant-loop-at
+invariant-loop-at l =
+    let vol = volume_of l.map.times.opened.records.bytes.now in
+    let e = place_of l.at vol.edges in
+    Within l.at vol.edges × OnWalk vol l.u e × ((j : ℕ) → j < e → falls vol l.to l.u j ≡ false)
 
-abbrev pub decreases-loop-e : goal.decreases-loop-e
-decreases-loop-e l = (volume_of l.map.times.opened.records.bytes.now).edges - l.e
+abbrev pub decreases-loop-at : goal.decreases-loop-at
+decreases-loop-at l =
+    let edges = (volume_of l.map.times.opened.records.bytes.now).edges in
+    edges - place_of l.at edges
