@@ -2,14 +2,14 @@
 ghost use Rattle.std.specs.Prelude.{◌≡◌, ◌*◌, ◌≤◌, length};
 ghost use Rattle.records.specs.Format.{volume_of};
 ghost use Rattle.volume.specs.Passes.{edges_pass};
-ghost use Rattle.volume.specs.Repeats.{Stamped, FirstRepeat};
+ghost use Rattle.volume.specs.Repeats.{FirstRepeat};
 
 use crate::repeats::first_repeat;
 use block::refusal::Refusal;
 use records::index::{Index, index_edges};
 use records::readers::Records;
 use rules::edges::edge_fits;
-use rules::kept::keep;
+use rules::kept::{Passed, keep};
 
 // The pass over all edges, of which `repeat` is the first whose ends an earlier one has: refuses the first edge at fault, or E where
 // pieces are left over. It keeps what later pairs ask of an edge.
@@ -20,7 +20,12 @@ fn pass_keeping(r: &Records<'_>, repeat: usize, kept: &mut [u16]) -> Result<(), 
 {
     let mut begin: usize = 0;
     for e in 0..repeat {
-        if !edge_fits(r, kept, e, begin) {
+        let passed = Passed {
+            records: *r,
+            edge: e,
+            kept,
+        };
+        if !edge_fits(&passed, begin) {
             return Err(Refusal::Edge(e));
         }
         begin += r.edge(e).pieces;

@@ -1,28 +1,22 @@
 use mathlib.Core.Path.{sym, ◌∙◌}
-use native.Mathlib.Omega.{arith}
 use borrow.Author.Tests.{lt-ltb, le-ltb}
 use Rattle.rules.specs.Rules.{pair_joins}
-use Rattle.rules.specs.Kept.{part}
 use Rattle.block.specs.Choose.{both_yes, both_no}
 use Rattle.rules.proofs.edges.pair_joins.Goals as goal
 
-pub returns-then-e-l : goal.returns-then-e-l
+pub returns-then-passed-l : goal.returns-then-passed-l
 unfolding pair_joins
-returns-then-e-l c = sym (both_no _ (le-ltb _ _ c.if-e-l.true))
+returns-then-passed-l c = sym (both_no _ (le-ltb _ _ c.if-passed-l.true))
 
-pub returns-then-e-r : goal.returns-then-e-r
+pub returns-then-passed-r : goal.returns-then-passed-r
 unfolding pair_joins
-returns-then-e-r c = sym (both_yes _ (lt-ltb _ _ c.if-e-l.false) ∙ both_no _ (le-ltb _ _ c.if-e-r.true))
+returns-then-passed-r c = sym (both_yes _ (lt-ltb _ _ c.if-passed-l.false) ∙ both_no _ (le-ltb _ _ c.if-passed-r.true))
 
 pub returns : goal.returns
-unfolding pair_joins part
+unfolding pair_joins
 returns c =
-    let a = c.args in
-    let l = c.if-e-l.false in
-    let r = c.if-e-r.false in
-    let ends = c.do_meet.ensures in
-    let l₀ = c.kept_part-l0.ensures.0 ∙ c.requires.parts a.l 0 (omega arith) (omega arith) in
-    let l₁ = c.kept_part-l1.ensures.0 ∙ c.requires.parts a.l 1 (omega arith) (omega arith) in
-    let r₀ = c.kept_part-r0.ensures.0 ∙ c.requires.parts a.r 0 (omega arith) (omega arith) in
-    let r₁ = c.kept_part-r1.ensures.0 ∙ c.requires.parts a.r 1 (omega arith) (omega arith) in
-    (cc) ∙ sym (both_yes _ (lt-ltb _ _ l) ∙ both_yes _ (lt-ltb _ _ r))
+    let l = c.if-passed-l.false in
+    let r = c.if-passed-r.false in
+    let left = c.ends.ensures in
+    let right = c.ends-2.ensures in
+    rw (← left.0, ← left.1, ← right.0, ← right.1) (c.do_meet.ensures ∙ sym (both_yes _ (lt-ltb _ _ l) ∙ both_yes _ (lt-ltb _ _ r)))

@@ -1,9 +1,8 @@
-use Rattle.std.proofs.Common.{ℕ, ◌≡◌, refl, sym, ◌∙◌, arith, Bool, true, false, Some, None}
+use Rattle.std.proofs.Common.{ℕ, ◌≡◌, refl, sym, ◌∙◌, Bool, true, false, Some, None}
 use Rattle.std.specs.Bool.{then_some}
 use Rattle.block.specs.Choose.{choose}
 use Rattle.records.specs.Format.{volume_of}
 use Rattle.rules.specs.EdgeSteps.{fit_road, fit_pair, pair_below}
-use Rattle.rules.specs.Kept.{part}
 use Rattle.rules.proofs.edges.piece_fit.Goals as goal
 
 -- a test as the span of a road that passes it
@@ -18,31 +17,30 @@ returns-in-Road c =
     let joins = some_joins c.road_joins.result in
     c.then_some.ensures
     ∙ joins
-    ∙ sym (fit_road (volume_of c.args.r.now.bytes.now) c.args.e c.args.p _ _ _ _ c.requires.from_value.0 c.requires.from_value.1 w.1 refl w.0 (sym c.road_joins.ensures))
+    ∙ sym (fit_road (volume_of c.args.passed.now.records.bytes.now) c.args.passed.now.edge c.args.p _ _ _ _ c.requires.over_value.0 c.requires.over_value.1 w.1 refl w.0 (sym c.road_joins.ensures))
 
-pub kept_part-requires : goal.kept_part-requires
-kept_part-requires c =
-    let q = pair_below (volume_of c.args.r.now.bytes.now) _ _ _ _ _ (sym c.pair_joins.ensures ∙ c.if-pair_joins.true) in
-    omega (arith, c.requires.kept.room, c.requires.kept.inside)
+pub span-requires : goal.span-requires
+span-requires c =
+    let q = pair_below (volume_of c.args.passed.now.records.bytes.now) _ _ _ _ _ (sym c.pair_joins.ensures ∙ c.if-pair_joins.true) in
+    q.0
 
-pub kept_part-requires-then-pair_joins : goal.kept_part-requires-then-pair_joins
-kept_part-requires-then-pair_joins c =
-    let q = pair_below (volume_of c.args.r.now.bytes.now) _ _ _ _ _ (sym c.pair_joins.ensures ∙ c.if-pair_joins.true) in
-    omega (arith, c.requires.kept.room, c.requires.kept.inside)
+pub span-requires-then-pair_joins : goal.span-requires-then-pair_joins
+span-requires-then-pair_joins c =
+    let q = pair_below (volume_of c.args.passed.now.records.bytes.now) _ _ _ _ _ (sym c.pair_joins.ensures ∙ c.if-pair_joins.true) in
+    q.1
 
 pub returns-then-pair_joins : goal.returns-then-pair_joins
-unfolding choose part
+unfolding choose
 returns-then-pair_joins c =
     let w = rw c.in-Turn.is at c.piece.ensures.way in
-    let q = pair_below (volume_of c.args.r.now.bytes.now) _ _ _ _ _ (sym c.pair_joins.ensures ∙ c.if-pair_joins.true) in
-    let K = c.requires.kept in
-    sym (fit_pair (volume_of c.args.r.now.bytes.now) c.args.e c.args.p _ _ _ _ c.requires.from_value.0 c.requires.from_value.1
+    let q = pair_below (volume_of c.args.passed.now.records.bytes.now) _ _ _ _ _ (sym c.pair_joins.ensures ∙ c.if-pair_joins.true) in
+    sym (fit_pair (volume_of c.args.passed.now.records.bytes.now) c.args.passed.now.edge c.args.p _ _ _ _ c.requires.over_value.0 c.requires.over_value.1
     w.1 w.2 (λ z. w.0 (sym w.2 ∙ z)) (sym c.pair_joins.ensures ∙ c.if-pair_joins.true)
-    _ _ (c.kept_part.ensures.0 ∙ K.parts _ 2 q.0 (omega arith)) (c.kept_part-then-pair_joins.ensures.0 ∙ K.parts _ 2 q.1 (omega arith)))
+    _ _ c.span.ensures.0 c.span-then-pair_joins.ensures.0)
 
 pub returns-else-pair_joins : goal.returns-else-pair_joins
 unfolding choose
 returns-else-pair_joins c =
     let w = rw c.in-Turn.is at c.piece.ensures.way in
-    sym (fit_pair (volume_of c.args.r.now.bytes.now) c.args.e c.args.p _ _ _ _ c.requires.from_value.0 c.requires.from_value.1
+    sym (fit_pair (volume_of c.args.passed.now.records.bytes.now) c.args.passed.now.edge c.args.p _ _ _ _ c.requires.over_value.0 c.requires.over_value.1
     w.1 w.2 (λ z. w.0 (sym w.2 ∙ z)) (sym c.pair_joins.ensures ∙ c.if-pair_joins.false) _ _ refl refl)

@@ -12,8 +12,8 @@ loop-i-init c = (first_start _ _, refl, λ h. absurd (omega arith))
 
 pub returns-then-not-start_fits : goal.returns-then-not-start_fits
 returns-then-not-start_fits c =
-    let e = c.args.e in
-    let v = c.args.r.now.bytes.now in
+    let e = c.args.passed.now.edge in
+    let v = c.args.passed.now.records.bytes.now in
     let vol = volume_of v in
     let edge = c.edge-edge.ensures in
     let i = c.loop-i.i in
@@ -23,8 +23,8 @@ returns-then-not-start_fits c =
 
 pub returns-in_err-span : goal.returns-in_err-span
 returns-in_err-span c =
-    let e = c.args.e in
-    let v = c.args.r.now.bytes.now in
+    let e = c.args.passed.now.edge in
+    let v = c.args.passed.now.records.bytes.now in
     let vol = volume_of v in
     let edge = c.edge-edge.ensures in
     let i = c.loop-i.i in
@@ -36,8 +36,8 @@ returns-in_err-span c =
 
 pub loop-i-preserved : goal.loop-i-preserved
 loop-i-preserved c =
-    let e = c.args.e in
-    let v = c.args.r.now.bytes.now in
+    let e = c.args.passed.now.edge in
+    let v = c.args.passed.now.records.bytes.now in
     let vol = volume_of v in
     let edge = c.edge-edge.ensures in
     let i = c.loop-i.i in
@@ -52,8 +52,8 @@ loop-i-preserved c =
 
 pub returns : goal.returns
 returns c =
-    let e = c.args.e in
-    let vol = volume_of c.args.r.now.bytes.now in
+    let e = c.args.passed.now.edge in
+    let vol = volume_of c.args.passed.now.records.bytes.now in
     let edge = c.edge-edge.ensures in
     let end : c.loop-i.i ≡ vol.edge_pieces e = omega (arith, edge.pieces) in
     sym (pieces_fine vol e _ (all_end (piece_rule vol e) _ c.loop-i.i (omega arith) (omega arith) c.loop-i.invariant.0)
