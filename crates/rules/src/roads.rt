@@ -21,12 +21,7 @@ pub fn is_placed(begin: usize, total: usize, first: usize, number: usize) -> boo
     requires { (first < 2 ^ 32) × (number < 2 ^ 32) }
     ensures { result ≡ placed begin total first number }
 {
-    if 1 <= number {
-        if first == begin {
-            return first + number <= total;
-        }
-    }
-    false
+    1 <= number && (first == begin && first + number <= total)
 }
 
 // Does the point (t0, f0) fit before the point (t1, f1)?
@@ -34,16 +29,7 @@ fn point_fits(t0: u64, f0: u64, t1: u64, f1: u64) -> bool
     requires { (t1 < 2 ^ 33) × (f1 < 2 ^ 32) }
     ensures { result ≡ point_fits day t0 f0 t1 f1 }
 {
-    if t0 < PERIOD {
-        if 1 <= f0 {
-            if f0 <= LONGEST {
-                if t0 < t1 {
-                    return f0 <= f1 + (t1 - t0);
-                }
-            }
-        }
-    }
-    false
+    t0 < PERIOD && (1 <= f0 && (f0 <= LONGEST && (t0 < t1 && f0 <= f1 + (t1 - t0))))
 }
 
 // Do the n points from `first` on obey? Each fits before the next one, and the last before the first of the next period.
@@ -70,10 +56,7 @@ pub fn road_fits(r: &Records<'_>, k: usize, begin: usize) -> bool
     ensures { result ≡ road_rule (volume_of r.now.bytes.now) k }
 {
     let road = r.road(k);
-    if ends_fit(r.counts.junctions, road.from, road.to) {
-        if is_placed(begin, r.counts.points, road.first, road.points) {
-            return points_fit(r, road.first, road.points);
-        }
-    }
-    false
+    ends_fit(r.counts.junctions, road.from, road.to)
+        && (is_placed(begin, r.counts.points, road.first, road.points)
+            && points_fit(r, road.first, road.points))
 }

@@ -40,18 +40,9 @@ fn head(v: &[u8]) -> Counts
 fn head_fits(c: Counts) -> bool
     ensures { result ≡ head_fits c }
 {
-    if 1 <= c.junctions {
-        if c.junctions <= 1024 {
-            if c.roads <= 4096 {
-                if c.points <= 65535 {
-                    if c.edges <= 16384 {
-                        return c.pieces <= 65535;
-                    }
-                }
-            }
-        }
-    }
-    false
+    1 <= c.junctions
+        && (c.junctions <= 1024
+            && (c.roads <= 4096 && (c.points <= 65535 && (c.edges <= 16384 && c.pieces <= 65535))))
 }
 
 // Are the content words of n blocks zero from word `words` on?

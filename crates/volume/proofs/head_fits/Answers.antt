@@ -10,20 +10,20 @@ returns-then-c-le16384 c = sym (both_yes _ (le-leb _ _ c.if-c-ge1.true) ∙ both
 
 pub returns-else-c-le16384 : goal.returns-else-c-le16384
 unfolding head_fits
-returns-else-c-le16384 c = sym (both_yes _ (le-leb _ _ c.if-c-ge1.true) ∙ both_yes _ (le-leb _ _ c.if-c-le1024.true) ∙ both_yes _ (le-leb _ _ c.if-c-le4096.true) ∙ both_yes _ (le-leb _ _ c.if-c-le65535.true) ∙ both_no _ (lt-leb _ _ c.if-c-le16384.false))
+returns-else-c-le16384 c = lt-leb _ _ c.if-c-le16384.false ∙ sym (both_yes _ (le-leb _ _ c.if-c-ge1.true) ∙ both_yes _ (le-leb _ _ c.if-c-le1024.true) ∙ both_yes _ (le-leb _ _ c.if-c-le4096.true) ∙ both_yes _ (le-leb _ _ c.if-c-le65535.true) ∙ both_no _ (lt-leb _ _ c.if-c-le16384.false))
 
 pub returns-else-c-le65535 : goal.returns-else-c-le65535
 unfolding head_fits
-returns-else-c-le65535 c = sym (both_yes _ (le-leb _ _ c.if-c-ge1.true) ∙ both_yes _ (le-leb _ _ c.if-c-le1024.true) ∙ both_yes _ (le-leb _ _ c.if-c-le4096.true) ∙ both_no _ (lt-leb _ _ c.if-c-le65535.false))
+returns-else-c-le65535 c = lt-leb _ _ c.if-c-le65535.false ∙ sym (both_yes _ (le-leb _ _ c.if-c-ge1.true) ∙ both_yes _ (le-leb _ _ c.if-c-le1024.true) ∙ both_yes _ (le-leb _ _ c.if-c-le4096.true) ∙ both_no _ (lt-leb _ _ c.if-c-le65535.false))
 
 pub returns-else-c-le4096 : goal.returns-else-c-le4096
 unfolding head_fits
-returns-else-c-le4096 c = sym (both_yes _ (le-leb _ _ c.if-c-ge1.true) ∙ both_yes _ (le-leb _ _ c.if-c-le1024.true) ∙ both_no _ (lt-leb _ _ c.if-c-le4096.false))
+returns-else-c-le4096 c = lt-leb _ _ c.if-c-le4096.false ∙ sym (both_yes _ (le-leb _ _ c.if-c-ge1.true) ∙ both_yes _ (le-leb _ _ c.if-c-le1024.true) ∙ both_no _ (lt-leb _ _ c.if-c-le4096.false))
 
 pub returns-else-c-le1024 : goal.returns-else-c-le1024
 unfolding head_fits
-returns-else-c-le1024 c = sym (both_yes _ (le-leb _ _ c.if-c-ge1.true) ∙ both_no _ (lt-leb _ _ c.if-c-le1024.false))
+returns-else-c-le1024 c = lt-leb _ _ c.if-c-le1024.false ∙ sym (both_yes _ (le-leb _ _ c.if-c-ge1.true) ∙ both_no _ (lt-leb _ _ c.if-c-le1024.false))
 
 pub returns-else-c-ge1 : goal.returns-else-c-ge1
 unfolding head_fits
-returns-else-c-ge1 c = sym (both_no _ (lt-leb _ _ c.if-c-ge1.false))
+returns-else-c-ge1 c = lt-leb _ _ c.if-c-ge1.false ∙ sym (both_no _ (lt-leb _ _ c.if-c-ge1.false))

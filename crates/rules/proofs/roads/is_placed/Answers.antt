@@ -10,8 +10,8 @@ returns-then-first-begin c = sym (both_yes _ (le-leb _ _ c.if-number-ge1.true) �
 
 pub returns-else-first-begin : goal.returns-else-first-begin
 unfolding placed
-returns-else-first-begin c = sym (both_yes _ (le-leb _ _ c.if-number-ge1.true) ∙ both_no _ (ne_eqb _ _ c.if-first-begin.false))
+returns-else-first-begin c = ne_eqb _ _ c.if-first-begin.false ∙ sym (both_yes _ (le-leb _ _ c.if-number-ge1.true) ∙ both_no _ (ne_eqb _ _ c.if-first-begin.false))
 
 pub returns-else-number-ge1 : goal.returns-else-number-ge1
 unfolding placed
-returns-else-number-ge1 c = sym (both_no _ (lt-leb _ _ c.if-number-ge1.false))
+returns-else-number-ge1 c = lt-leb _ _ c.if-number-ge1.false ∙ sym (both_no _ (lt-leb _ _ c.if-number-ge1.false))

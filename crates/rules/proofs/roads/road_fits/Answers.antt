@@ -34,7 +34,8 @@ returns-then-is_placed c =
 pub returns-else-is_placed : goal.returns-else-is_placed
 returns-else-is_placed c =
     let r = c.args.r.now in
-    sym
+    c.if-is_placed.false
+    ∙ sym
     (rule (volume_of r.bytes.now) r.counts c.args.k c.args.begin _ r.counted c.road-road.ensures c.requires.begin_value
     ∙ both_yes _ (cc)
     ∙ both_no _ (cc))
@@ -42,6 +43,7 @@ returns-else-is_placed c =
 pub returns-else-ends_fit : goal.returns-else-ends_fit
 returns-else-ends_fit c =
     let r = c.args.r.now in
-    sym
+    c.if-ends_fit.false
+    ∙ sym
     (rule (volume_of r.bytes.now) r.counts c.args.k c.args.begin _ r.counted c.road-road.ensures c.requires.begin_value
     ∙ both_no _ (cc))
