@@ -38,10 +38,8 @@ fn lead_of(map: &Roadmap<'_>, marks: &[bool], s: usize, e: usize) -> Option<usiz
         }
         return None;
     }
-    if w < s - n {
-        if marks[w] {
-            return Some(n + w);
-        }
+    if w < s - n && marks[w] {
+        return Some(n + w);
     }
     None
 }
@@ -89,10 +87,8 @@ fn offer_turn(
     ensures work_after { work.new ≡ turned marks.now n s arrival head work.old }
     ensures rechained { Rechained (n + n) work.old head work.new result }
 {
-    if s < n {
-        if marks[s] {
-            return offer_to(work, head, n + s, arrival, 0);
-        }
+    if s < n && marks[s] {
+        return offer_to(work, head, n + s, arrival, 0);
     }
     head
 }

@@ -49,11 +49,8 @@ pub fn offer_to(work: &mut [u64], head: usize, s: usize, arrival: u64, arc: u64)
         work[at + NEXT] = head as u64;
         return s;
     }
-    if kind == WAITING {
-        if arrival < work[at + ARRIVAL] {
-            put_label(work, s, WAITING, arrival, arc);
-            return head;
-        }
+    if kind == WAITING && arrival < work[at + ARRIVAL] {
+        put_label(work, s, WAITING, arrival, arc);
     }
     head
 }

@@ -19,10 +19,8 @@ fn mark_of(map: &Roadmap<'_>, to: usize, u: usize, marks: &[bool]) -> bool
     let mut at = map.first(u);
     while let Some(e) = at {
         let w = records.edge(e).to;
-        if w < u {
-            if marks[w] {
-                return true;
-            }
+        if w < u && marks[w] {
+            return true;
         }
         at = map.next(e);
     }

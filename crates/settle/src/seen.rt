@@ -75,10 +75,8 @@ pub fn see(work: &[u64], states: usize, head: usize, home: usize) -> View
         return View::NothingWaits;
     };
     let at = STATE * home;
-    if work[at] == WAITING {
-        if work[at + ARRIVAL] == least.arrival {
-            return View::Destination(least.arrival);
-        }
+    if work[at] == WAITING && work[at + ARRIVAL] == least.arrival {
+        return View::Destination(least.arrival);
     }
     View::Next(least)
 }

@@ -10,7 +10,7 @@ use Rattle.records.specs.Index.{found_place, found_within, walk_on}
 use Rattle.records.specs.Format.{volume_of}
 use Rattle.theory.specs.Marks.{marked}
 use Rattle.settle.proofs.marks.mark_of.Goals as goal
-use Rattle.settle.proofs.marks.mark_of.Goals.{then-w-u+else-marks-w, else-w-u}
+use Rattle.settle.proofs.marks.mark_of.Goals.{else-w-u-via-then-w-u+else-marks-w, else-w-u-via-else-w-u}
 
 pub returns-then-u-to : goal.returns-then-u-to
 returns-then-u-to c =
@@ -54,9 +54,9 @@ loop-at-preserved c =
     let from = at.1.begins at.0 in
     let to = c.edge-w.ensures.to in
     let on = walk_on vol u e _ at.0 from c.next-at.ensures in
-    let here : falls vol d u e ≡ false = elim c.if-w-u.branch [
-      | then-w-u+else-marks-w w ↦ falls_unmarked vol d u e from (omega (arith, w.if-w-u.true)) (sym (ap (marked (network_of vol) d) to) ∙ sym (c.requires.marks_below _ w.if-w-u.true) ∙ w.if-marks-w.false)
-      | else-w-u w ↦ falls_high vol d u e from (omega (arith, w.if-w-u.false))
+    let here : falls vol d u e ≡ false = elim c.else-w-u.branch [
+      | else-w-u-via-then-w-u+else-marks-w w ↦ falls_unmarked vol d u e from (omega (arith, w.if-w-u.true)) (sym (ap (marked (network_of vol) d) to) ∙ sym (c.requires.marks_below _ w.if-w-u.true) ∙ w.if-marks-w.false)
+      | else-w-u-via-else-w-u w ↦ falls_high vol d u e from (omega (arith, w.if-w-u.false))
     ] in (
       on.within,
       on_walk vol u (e + 1) _ (omega arith) on.place,
