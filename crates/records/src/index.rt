@@ -1,6 +1,6 @@
 // The edges of each junction, in rising order, made in one pass for whoever would look through all
 // edges otherwise: opening, the full check and the search.
-ghost use Rattle.std.specs.Prelude.{◌≡◌, ◌+◌, ◌≤◌, ◌<◌, length};
+ghost use Rattle.std.specs.Prelude.{◌≡◌, ◌+◌, ◌^◌, ◌≤◌, ◌<◌, length};
 ghost use Rattle.block.specs.First.{Found};
 ghost use Rattle.records.specs.Format.{volume_of};
 ghost use Rattle.records.specs.Index.{Indexed, Linked, next_from};
@@ -9,6 +9,7 @@ use crate::readers::Records;
 
 // For each junction its first edge, and for each edge the next one of the same start; E for none.
 pub fn index_edges(r: &Records<'_>, first: &mut [u16], next: &mut [u16])
+    requires edges_bound { r.now.counts.edges < 2 ^ 16 }
     requires junctions_in_bounds { (r.now.counts.junctions ≤ length first.old) × (r.now.counts.edges ≤ length next.old) }
     ensures { Indexed (volume_of r.now.bytes.now) first.old next.old first.new next.new 0 }
 {

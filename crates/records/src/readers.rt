@@ -1,7 +1,7 @@
 // The records of a volume, read: a road, a point, an edge and a piece, whole. Whoever holds `Records` knows that all of them lie in the
 // bytes, so no reader tests anything. What is not used of a record is not read: the compiler leaves it out.
 ghost use Rattle.std.specs.Prelude.{◌≡◌, ◌+◌, ◌*◌, ◌^◌, ◌<◌};
-ghost use Rattle.records.specs.Format.{volume_of, Counted, Few, Laid, IsRoad, IsPoint, IsEdge, IsPiece, IsWay};
+ghost use Rattle.records.specs.Format.{volume_of, Counted, Laid, IsRoad, IsPoint, IsEdge, IsPiece, IsWay};
 ghost use Rattle.block.specs.Word.{content_at, Holds};
 
 use crate::tables::{
@@ -20,7 +20,6 @@ pub struct Records<'a> {
     pub counts: Counts,
     pub tables: Tables,
     pub ghost counted: { Counted (volume_of bytes.now) counts },
-    pub ghost few: { Few counts },
     pub ghost laid: { Laid bytes.now tables },
 }
 
@@ -47,21 +46,43 @@ pub fn way_at(v: &[u8], w: usize) -> Way
     }
 }
 
+// Road k. Its first word stands at an even place, so its four words are two pairs.
+pub fn road_at(v: &[u8], t: Tables, k: usize) -> Road
+    requires laid { Laid v.now t }
+    requires k_bound { k < (volume_of v.now).roads }
+    ensures { IsRoad (volume_of v.now) k result }
+{
+    let w = record_at(HEAD_WORDS, ROAD_WORDS, k);
+    let ends = content_pair(v, w);
+    let points = content_pair(v, w + 2);
+    Road {
+        from: ends.first as usize,
+        to: ends.second as usize,
+        first: points.first as usize,
+        points: points.second as usize,
+    }
+}
+
+// Point i of all.
+pub fn point_at(v: &[u8], t: Tables, i: usize) -> Point
+    requires laid { Laid v.now t }
+    requires i_bound { i < (volume_of v.now).points }
+    ensures { IsPoint (volume_of v.now) i result }
+{
+    let words = content_pair(v, record_at(t.points, POINT_WORDS, i));
+    Point {
+        second: words.first as u64,
+        duration: words.second as u64,
+    }
+}
+
 impl Records<'_> {
-    // Road k. Its first word stands at an even place, so its four words are two pairs.
+    // Road k.
     pub fn road(&self, k: usize) -> Road
         requires { k < (volume_of self.now.bytes.now).roads }
         ensures { IsRoad (volume_of self.now.bytes.now) k result }
     {
-        let w = record_at(HEAD_WORDS, ROAD_WORDS, k);
-        let ends = content_pair(self.bytes, w);
-        let points = content_pair(self.bytes, w + 2);
-        Road {
-            from: ends.first as usize,
-            to: ends.second as usize,
-            first: points.first as usize,
-            points: points.second as usize,
-        }
+        road_at(self.bytes, self.tables, k)
     }
 
     // Point i of all.
@@ -69,11 +90,7 @@ impl Records<'_> {
         requires { i < (volume_of self.now.bytes.now).points }
         ensures { IsPoint (volume_of self.now.bytes.now) i result }
     {
-        let words = content_pair(self.bytes, record_at(self.tables.points, POINT_WORDS, i));
-        Point {
-            second: words.first as u64,
-            duration: words.second as u64,
-        }
+        point_at(self.bytes, self.tables, i)
     }
 
     // Edge e.

@@ -36,7 +36,8 @@ impl Passed<'_> {
     // The ends of edge d.
     pub fn ends(&self, d: usize) -> Ends
         requires { d < self.now.edge }
-        ensures { (result.from ≡ (volume_of self.now.records.bytes.now).edge_from d) × (result.to ≡ (volume_of self.now.records.bytes.now).edge_to d) }
+        ensures from_value { (result.from ≡ (volume_of self.now.records.bytes.now).edge_from d) × (result.from < 2 ^ 16) }
+        ensures to_value { (result.to ≡ (volume_of self.now.records.bytes.now).edge_to d) × (result.to < 2 ^ 16) }
     {
         Ends {
             from: self.kept[PARTS * d + START] as usize,

@@ -86,3 +86,18 @@ module _ (vol : Volume) (d u : ℕ) where
   pub mark_missing : u ≢ d → ((e : ℕ) → e < vol.edges → falls e ≡ false) → false ≡ mark_of vol d u
   unfolding network_of
   mark_missing n h = sym (marked_is (network_of vol) d u ∙ rw (ne_eqb u d n) (any_none vol.edges falls h))
+
+-- a mark as a number: 1 where a test holds, else 0
+abbrev pub flag : Bool → ℕ
+flag true = 1
+flag false = 0
+
+-- a mark that is 1 is a junction marked
+pub mark_one : (b : Bool) (k : ℕ) → k ≡ flag b → k ≡ 1 → b ≡ true
+mark_one true k p q = refl
+mark_one false k p q = absurd (omega arith)
+
+-- any other is not
+pub mark_other : (b : Bool) (k : ℕ) → k ≡ flag b → k ≢ 1 → b ≡ false
+mark_other true k p q = absurd (q p)
+mark_other false k p q = refl

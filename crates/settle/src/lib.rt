@@ -14,7 +14,7 @@ use crate::arcs::settle_state;
 use crate::labels::{STATE, offer_to};
 use crate::marks::mark;
 use crate::seen::{View, see, upper};
-use records::index::index_edges;
+use records::index::{Index, index_edges};
 use travel::digest::{LONG, SHORT, Timetable, make_digest};
 use travel::roadmap::Roadmap;
 use volume::sound::Opened;
@@ -100,8 +100,13 @@ fn run_with<const INDEX: usize, const DIGEST: usize>(
         opened: *opened,
         digest: &digest,
     };
+    let index = Index {
+        records: opened.records,
+        first: &first,
+        next: &next,
+    };
+    mark(&index, query.to, &mut marks);
     let map = Roadmap::new(times, &first, &next);
-    mark(&map, query.to, &mut marks);
     units(&map, &marks, query, work)
 }
 

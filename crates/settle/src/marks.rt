@@ -4,35 +4,34 @@ ghost use Rattle.std.specs.Prelude.{◌≡◌, ◌≤◌, ◌<◌, length};
 ghost use Rattle.records.specs.Format.{volume_of};
 ghost use Rattle.settle.specs.Marked.{mark_of, MarksBelow, Marks};
 
-use travel::roadmap::Roadmap;
+use records::index::Index;
 
 // The mark of junction u, where the marks of all lower junctions are known.
-fn mark_of(map: &Roadmap<'_>, to: usize, u: usize, marks: &[bool]) -> bool
-    requires u_bound { (u < (volume_of map.now.times.opened.records.bytes.now).junctions) × (u < length marks.now) }
-    requires marks_below { MarksBelow (volume_of map.now.times.opened.records.bytes.now) to u marks.now }
-    ensures { result ≡ mark_of (volume_of map.now.times.opened.records.bytes.now) to u }
+fn mark_of(index: &Index<'_>, to: usize, u: usize, marks: &[bool]) -> bool
+    requires u_bound { (u < (volume_of index.now.records.bytes.now).junctions) × (u < length marks.now) }
+    requires marks_below { MarksBelow (volume_of index.now.records.bytes.now) to u marks.now }
+    ensures { result ≡ mark_of (volume_of index.now.records.bytes.now) to u }
 {
     if u == to {
         return true;
     }
-    let records = &map.times.opened.records;
-    let mut at = map.first(u);
+    let mut at = index.first(u);
     while let Some(e) = at {
-        let w = records.edge(e).to;
+        let w = index.records.edge(e).to;
         if w < u && marks[w] {
             return true;
         }
-        at = map.next(e);
+        at = index.next(e);
     }
     false
 }
 
 // The mark of every junction.
-pub fn mark(map: &Roadmap<'_>, to: usize, marks: &mut [bool])
-    requires { map.now.times.opened.records.counts.junctions ≤ length marks.old }
-    ensures { Marks (volume_of map.now.times.opened.records.bytes.now) to (volume_of map.now.times.opened.records.bytes.now).junctions marks.old marks.new }
+pub fn mark(index: &Index<'_>, to: usize, marks: &mut [bool])
+    requires { index.now.records.counts.junctions ≤ length marks.old }
+    ensures { Marks (volume_of index.now.records.bytes.now) to (volume_of index.now.records.bytes.now).junctions marks.old marks.new }
 {
-    for u in 0..map.times.opened.records.counts.junctions {
-        marks[u] = mark_of(map, to, u, marks);
+    for u in 0..index.records.counts.junctions {
+        marks[u] = mark_of(index, to, u, marks);
     }
 }

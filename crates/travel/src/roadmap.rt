@@ -20,13 +20,15 @@ impl<'a> Roadmap<'a> {
     // The times of a volume with the index of its edges.
     pub fn new(times: Timetable<'a>, first: &'a [u16], next: &'a [u16]) -> Self
         requires { Linked (volume_of times.opened.records.bytes.now) first.now next.now }
-        ensures { result.times.opened.records.bytes.now ≡ times.entry.opened.records.bytes.now }
+        ensures times { (result.times.opened.records.bytes.now ≡ times.entry.opened.records.bytes.now) × (result.times.digest.now ≡ times.entry.digest.now) }
+        ensures lists { (result.first.now ≡ first.now) × (result.next.now ≡ next.now) }
     {
         Roadmap { times, first, next }
     }
 }
 
 impl Roadmap<'_> {
+    // The index of its edges.
     fn index(&self) -> Index<'_>
         ensures { result.records.bytes.now ≡ self.now.times.opened.records.bytes.now }
     {

@@ -1,6 +1,6 @@
 // The pass over the edges, and the lists that it works with.
 ghost use Rattle.std.specs.Prelude.{◌≡◌, ◌*◌, ◌≤◌, length};
-ghost use Rattle.records.specs.Format.{volume_of};
+ghost use Rattle.records.specs.Format.{volume_of, Few};
 ghost use Rattle.volume.specs.Passes.{edges_pass};
 ghost use Rattle.volume.specs.Repeats.{FirstRepeat};
 
@@ -15,6 +15,7 @@ use rules::kept::{Passed, keep};
 // pieces are left over. It keeps what later pairs ask of an edge.
 fn pass_keeping(r: &Records<'_>, repeat: usize, kept: &mut [u16]) -> Result<(), Refusal>
     requires first_repeat { FirstRepeat (volume_of r.now.bytes.now) repeat }
+    requires junctions_bound { r.now.counts.junctions ≤ 1024 }
     requires edges_in_bounds { 3 * r.now.counts.edges ≤ length kept.old }
     ensures { result ≡ edges_pass (volume_of r.now.bytes.now) }
 {
@@ -63,6 +64,7 @@ fn pass_with<const J: usize, const L: usize>(r: &Records<'_>) -> Result<(), Refu
 // The pass over all edges: refuses the first at fault, or E where pieces are left over. Long lists take longer to make than a small
 // volume takes to read, so fewer edges get shorter lists.
 pub fn edges_pass(r: &Records<'_>) -> Result<(), Refusal>
+    requires { Few r.now.counts }
     ensures { result ≡ edges_pass (volume_of r.now.bytes.now) }
 {
     let edges = r.counts.edges;

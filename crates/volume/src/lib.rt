@@ -5,7 +5,7 @@
 
 ghost use Rattle.std.specs.Prelude.{◌≡◌, ◌*◌, ◌/◌, ◌≤◌, length, IfOk, IfErr};
 ghost use Rattle.block.specs.Choose.{choose};
-ghost use Rattle.records.specs.Format.{volume_of, counts_of};
+ghost use Rattle.records.specs.Format.{volume_of, counts_of, Few};
 ghost use Rattle.rules.specs.Rules.{head_fits, filler_zero, counts_rule};
 ghost use Rattle.volume.specs.Open.{records_of, open_of};
 
@@ -61,6 +61,7 @@ fn filler_zero(v: &[u8], words: usize, blocks: usize) -> bool
 
 // Roads, then edges.
 fn open_records(r: &Records<'_>) -> Result<Counts, Refusal>
+    requires { Few r.now.counts }
     ensures { result ≡ records_of (volume_of r.now.bytes.now) }
 {
     roads_pass(r)?;

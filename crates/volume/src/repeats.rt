@@ -1,6 +1,6 @@
 // The first edge whose two ends an earlier edge has, found in one walk over the edges of each junction: a junction that an edge
 // reaches is stamped with where the edge begins, so that a second such edge finds the stamp.
-ghost use Rattle.std.specs.Prelude.{◌≡◌, ◌+◌, ◌≤◌, ◌<◌, length};
+ghost use Rattle.std.specs.Prelude.{◌≡◌, ◌+◌, ◌-◌, ◌^◌, ◌≤◌, ◌<◌, length};
 ghost use Rattle.records.specs.Format.{volume_of};
 ghost use Rattle.volume.specs.Repeats.{bears, stamped_on, Stamped, LeastBelow, FirstRepeat};
 
@@ -23,7 +23,7 @@ fn stamp_on(stamps: &mut [u16], n: usize, w: usize, stamp: u16) -> bool
 
 // The first edge from u that repeats an earlier one's ends, or `least` if none before it does.
 fn repeat_from(index: &Index<'_>, u: usize, stamps: &mut [u16], least: usize) -> usize
-    requires u_bound { u < index.now.records.counts.junctions }
+    requires u_bound { (u < index.now.records.counts.junctions) × (u < 2 ^ 16 - 1) }
     requires stamped { Stamped index.now.records.counts.junctions u stamps.old }
     requires least_below { LeastBelow (volume_of index.now.records.bytes.now) u least }
     ensures least_below_2 { LeastBelow (volume_of index.now.records.bytes.now) (u + 1) result }
@@ -46,6 +46,7 @@ fn repeat_from(index: &Index<'_>, u: usize, stamps: &mut [u16], least: usize) ->
 
 // The first edge whose two ends an earlier edge has, or E. The stamps are to be clean.
 pub fn first_repeat(index: &Index<'_>, stamps: &mut [u16]) -> usize
+    requires junctions_bound { index.now.records.counts.junctions < 2 ^ 16 }
     requires stamped { Stamped index.now.records.counts.junctions 0 stamps.old }
     ensures first_repeat { FirstRepeat (volume_of index.now.records.bytes.now) result }
     ensures stamped_2 { Stamped index.now.records.counts.junctions index.now.records.counts.junctions stamps.new }

@@ -1,5 +1,4 @@
 // A volume that has opened, for whoever asks more of it than its counts.
-ghost use Rattle.std.specs.Prelude.{◌≡◌, IfOk, IfErr};
 ghost use Rattle.records.specs.Format.{volume_of};
 ghost use Rattle.volume.specs.Sound.{Sound};
 

@@ -12,7 +12,7 @@ returns-then-n-query-2 c =
 
 pub overflow_mul-n : goal.overflow_mul-n
 overflow_mul-n c =
-    let n = c.args.opened.now.records.few.junctions in
+    let n = c.args.opened.now.sound.junctions_few in
     omega arith
 
 pub returns-then-work-n : goal.returns-then-work-n

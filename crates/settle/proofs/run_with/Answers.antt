@@ -11,25 +11,27 @@ invariant_of-times g c =
     let D = digest_made (volume_of r.bytes.now) _ (omega (arith, c.requires.edges_in_bounds.1, r.counted.edges, r.counted.roads)) in
     record { told = rw c.make_digest.ensures D }
 
-pub new-map-requires : goal.new-map-requires
-new-map-requires g c =
+pub invariant_of-index : goal.invariant_of-index
+invariant_of-index g c =
     let r = c.args.opened.now.records in
     let zeros = length-replicate {A = ℕ} 1024 0 in
     let more = length-replicate {A = ℕ} g.row.INDEX 0 in
-    indexed_linked (volume_of r.bytes.now) _ _ _ _ (omega (arith, r.counted.junctions, r.few.junctions))
-    (omega (arith, r.counted.edges, c.requires.edges_in_bounds.0)) c.index_edges.ensures
+    record { linked = indexed_linked (volume_of r.bytes.now) _ _ _ _ (omega (arith, r.counted.junctions, c.args.opened.now.sound.junctions_few))
+    (omega (arith, r.counted.edges, c.requires.edges_in_bounds.0)) c.index_edges.ensures }
 
 pub mark-requires : goal.mark-requires
-mark-requires g c = c.new-map.result.times.opened.records.few.junctions
+mark-requires g c =
+    let r = c.args.opened.now in
+    omega (arith, r.records.counted.junctions, r.sound.junctions_few)
 
 pub units-requires-clause-question : goal.units-requires-clause-question
-units-requires-clause-question g c = rw c.new-map.ensures c.requires.question
+units-requires-clause-question g c = rw c.new-map.ensures.times.0 c.requires.question
 
 pub units-requires-clause-junctions_in_bounds : goal.units-requires-clause-junctions_in_bounds
 units-requires-clause-junctions_in_bounds g c =
-    let few = c.new-map.result.times.opened.records.few.junctions in
+    let r = c.args.opened.now in
     let zeros = length-replicate {A = Bool} 1024 false in
-    (omega (arith, c.mark.ensures.size), c.mark.ensures.marks_at)
+    rw c.new-map.ensures.times.0 (omega (arith, c.mark.ensures.size, r.sound.junctions_few, c.new-map.result.times.opened.records.counted.junctions), c.mark.ensures.marks_at)
 
 pub returns : goal.returns
-returns g c = rw c.new-map.ensures at c.units.ensures
+returns g c = rw c.new-map.ensures.times.0 at c.units.ensures

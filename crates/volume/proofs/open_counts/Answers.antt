@@ -51,7 +51,7 @@ invariant_of-open_records c =
     let w = c.words_of-words.ensures in
     let e = c.if-blocks-words.false in
     let few = head_few _ (sym c.head_fits.ensures ∙ c.if-not-head_fits.false) in
-    record { counted = counted_of _ _ h; few = few; laid = laid_of _ _ _ h c.tables_of-tables.ensures (omega arith) few }
+    record { counted = counted_of _ _ h; laid = laid_of _ _ _ h c.tables_of-tables.ensures (omega arith) few }
 
 pub returns : goal.returns
 unfolding fewest_blocks
@@ -63,3 +63,6 @@ returns c =
     ∙ both_yes _ (eq-eqb _ _ c.if-blocks-words.false)
     ∙ sym c.filler_zero.ensures
     ∙ c.if-not-filler_zero.false))
+
+pub open_records-requires : goal.open_records-requires
+open_records-requires c = head_few _ (sym c.head_fits.ensures ∙ c.if-not-head_fits.false)

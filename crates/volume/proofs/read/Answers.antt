@@ -8,7 +8,7 @@ tables_of-requires c = (opened c.args.v.now _ (sym c.open.ensures ∙ c.in_ok-co
 pub invariant_of-records : goal.invariant_of-records
 invariant_of-records c =
     let o = opened c.args.v.now _ (sym c.open.ensures ∙ c.in_ok-counts.was) in
-    record { counted = o.counted; few = o.few; laid = rw c.tables_of.ensures o.laid }
+    record { counted = o.counted; laid = rw c.tables_of.ensures o.laid }
 
 pub invariant_of-result : goal.invariant_of-result
 invariant_of-result c =

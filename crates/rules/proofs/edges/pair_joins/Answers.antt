@@ -19,4 +19,4 @@ returns c =
     let r = c.if-passed-r.false in
     let left = c.ends.ensures in
     let right = c.ends-2.ensures in
-    rw (← left.0, ← left.1, ← right.0, ← right.1) (c.do_meet.ensures ∙ sym (both_yes _ (lt-ltb _ _ l) ∙ both_yes _ (lt-ltb _ _ r)))
+    rw (← left.from_value.0, ← left.to_value.0, ← right.from_value.0, ← right.to_value.0) (c.do_meet.ensures ∙ sym (both_yes _ (lt-ltb _ _ l) ∙ both_yes _ (lt-ltb _ _ r)))

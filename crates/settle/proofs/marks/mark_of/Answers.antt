@@ -15,11 +15,11 @@ use Rattle.settle.proofs.marks.mark_of.Goals.{else-w-u-via-then-w-u+else-marks-w
 pub returns-then-u-to : goal.returns-then-u-to
 returns-then-u-to c =
     let a = c.args in
-    mark_destination (volume_of a.map.now.times.opened.records.bytes.now) a.to a.u c.if-u-to.true
+    mark_destination (volume_of a.index.now.records.bytes.now) a.to a.u c.if-u-to.true
 
 pub loop-at-init : goal.loop-at-init
 loop-at-init c =
-    let vol = volume_of c.args.map.now.times.opened.records.bytes.now in
+    let vol = volume_of c.args.index.now.records.bytes.now in
     let u = c.args.u in
     let found = c.first-at.ensures in
     let is = found_place _ _ _ found in (
@@ -30,7 +30,7 @@ loop-at-init c =
 
 pub returns-then-marks-w : goal.returns-then-marks-w
 returns-then-marks-w c =
-    let vol = volume_of c.args.map.now.times.opened.records.bytes.now in
+    let vol = volume_of c.args.index.now.records.bytes.now in
     let to = c.edge-w.ensures.to in
     let at = rw c.in-Some.is at c.loop-at.invariant in
     let below = c.if-w-u.true in
@@ -39,14 +39,14 @@ returns-then-marks-w c =
 
 pub loop-at-smaller : goal.loop-at-smaller
 loop-at-smaller c =
-    let vol = volume_of c.args.map.now.times.opened.records.bytes.now in
+    let vol = volume_of c.args.index.now.records.bytes.now in
     let at = rw c.in-Some.is at c.loop-at.invariant in
     let on = walk_on vol c.args.u c.in-Some.e _ at.0 (at.1.begins at.0) c.next-at.ensures in
     rw c.in-Some.is on.nearer
 
 pub loop-at-preserved : goal.loop-at-preserved
 loop-at-preserved c =
-    let vol = volume_of c.args.map.now.times.opened.records.bytes.now in
+    let vol = volume_of c.args.index.now.records.bytes.now in
     let d = c.args.to in
     let u = c.args.u in
     let e = c.in-Some.e in
@@ -65,4 +65,4 @@ loop-at-preserved c =
 
 pub returns : goal.returns
 returns c =
-    mark_missing (volume_of c.args.map.now.times.opened.records.bytes.now) c.args.to c.args.u c.if-u-to.false (rw c.in_default.is at c.loop-at.invariant).2
+    mark_missing (volume_of c.args.index.now.records.bytes.now) c.args.to c.args.u c.if-u-to.false (rw c.in_default.is at c.loop-at.invariant).2

@@ -34,14 +34,14 @@ overflow_add-begin c =
     let vol = volume_of c.args.r.now.bytes.now in
     let fine = sym c.edge_fits.ensures ∙ c.if-not-edge_fits.false in
     let place = placed_fact _ _ _ _ (edge_tests vol c.loop-e.e fine).place in
-    omega (arith, place.begins_at, place.inside, c.loop-e.invariant.1, c.edge-begin.ensures.pieces, c.args.r.now.counted.pieces, c.args.r.now.few.pieces)
+    omega (arith, place.begins_at, place.inside, c.loop-e.invariant.1, c.edge-begin.ensures.pieces, c.args.r.now.counted.pieces)
 
 pub keep-requires-clause-short : goal.keep-requires-clause-short
 keep-requires-clause-short c =
     let vol = volume_of c.args.r.now.bytes.now in
     let in-edges : c.loop-e.e < vol.edges = omega (arith, c.requires.first_repeat.inside, c.loop-e-test.true) in
     let fine = sym c.edge_fits.ensures ∙ c.if-not-edge_fits.false in
-    short_edge vol c.loop-e.e (omega (arith, c.args.r.now.few.junctions, c.args.r.now.counted.junctions)) fine
+    short_edge vol c.loop-e.e (omega (arith, c.requires.junctions_bound, c.args.r.now.counted.junctions)) fine
 
 pub loop-e-preserved : goal.loop-e-preserved
 loop-e-preserved c =

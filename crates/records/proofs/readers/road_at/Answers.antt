@@ -4,7 +4,7 @@ use native.Mathlib.Omega.{arith}
 use borrow.Author.Rules.{rules}
 use Rattle.block.specs.Word.{content_at}
 use Rattle.records.specs.Format.{volume_of, roads_at, road_words}
-use Rattle.records.proofs.readers.Records.road.Goals as goal
+use Rattle.records.proofs.readers.road_at.Goals as goal
 
 pub returns : goal.returns
 unfolding volume_of
@@ -14,7 +14,7 @@ returns c =
       from = (cc);
       to = (cc);
       first = (cc);
-      points = c.content_pair-points.ensures.1 ∙ ap (content_at c.args.self.now.bytes.now) last;
+      points = c.content_pair-points.ensures.1 ∙ ap (content_at c.args.v.now) last;
       first_fits = search rules;
       points_fit = search rules;
     }
