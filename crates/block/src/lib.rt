@@ -1,6 +1,6 @@
 // Blocks: the words of a volume, the two sums of a block, sealing, and the first block whose sums
 // differ. Answers to document 01, "The volume", first paragraph. What the words mean is said in the
-// crate `records`.
+// crate `records`. In `refusal` are the refusals of every crate.
 #![tactic(auto)]
 
 ghost use Rattle.std.specs.Prelude.{◌≡◌, ◌+◌, ◌*◌, ◌/◌, ◌%◌, ◌<◌, ◌≤◌, length};

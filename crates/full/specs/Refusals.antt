@@ -1,4 +1,4 @@
--- Result Counts Refusal refuses by the numbers 1 to 6 and by no other.
+-- Opening refuses by the numbers 1 to 6 and by no other.
 use Rattle.std.specs.Prelude.{ℕ, ◌≤◌, Bool, true, false, List, Result, Ok, Err}
 use Rattle.std.proofs.Common.{arith}
 use Rattle.block.specs.Choose.{choose}

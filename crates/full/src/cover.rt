@@ -13,7 +13,7 @@ use records::tables::{PERIOD, Way};
 use travel::digest::Timetable;
 use travel::roadmap::Roadmap;
 
-// Why the edges don't cover a road or two edges in turn: none has its two ends, or the one that has them is late, first at a second.
+// Why the edges do not cover a road or two edges in turn: none has its two ends, or the one that has them is late, first at a second.
 #[derive(Clone, Copy)]
 pub enum Flaw {
     Missing,

@@ -18,7 +18,7 @@ use volume::sound::Opened;
 
 pub mod cover;
 
-// Why a volume isn't full. A road is named by its number, a pair by its left and its right edge; the number beside them is the earliest
+// Why a volume is not full. A road is named by its number, a pair by its left and its right edge; the number beside them is the earliest
 // late second.
 #[derive(Clone, Copy)]
 pub enum Fault {

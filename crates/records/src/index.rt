@@ -7,7 +7,8 @@ ghost use Rattle.records.specs.Index.{Indexed, Linked, next_from};
 
 use crate::readers::Records;
 
-// For each junction its first edge, and for each edge the next one of the same start; E for none.
+// For each junction its first edge, and for each edge the next one of the same start; E for none. In the lists they are numbers and no
+// options, two bytes an edge, since they lie in the fixed memory of a call; `Index` reads them as options.
 pub fn index_edges(r: &Records<'_>, first: &mut [u16], next: &mut [u16])
     requires edges_bound { r.now.counts.edges < 2 ^ 16 }
     requires junctions_in_bounds { (r.now.counts.junctions ≤ length first.old) × (r.now.counts.edges ≤ length next.old) }

@@ -9,7 +9,8 @@ use settle::Query;
 use settle::labels::{ARC, NO_LABEL, STATE};
 use volume::sound::Opened;
 
-// The arc of state s's label, 0 where it has none.
+// The arc of state s's label, 0 where it has none. Arcs are numbers and no options, because they stand in the memory that the host
+// lends.
 #[tactic(auto, using(crate::specs::Trail::arc_cases))]
 fn arc_at(work: &[u64], states: usize, s: usize) -> u64
     requires { (s < states) × (4 * states ≤ length work.now) }

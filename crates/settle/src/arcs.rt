@@ -11,6 +11,14 @@ use crate::labels::{SETTLED, STATE, offer_to, take_out};
 use crate::seen::Waiting;
 use travel::roadmap::Roadmap;
 
+// The map, with the junctions marked for a destination: what the rule makes its offers by.
+#[derive(Clone, Copy)]
+pub struct Web<'a> {
+    pub map: Roadmap<'a>,
+    pub marks: &'a [bool],
+    pub ghost room: { map.times.opened.records.counts.junctions ≤ length marks.now },
+}
+
 // The junction at which state s stands.
 #[tactic(auto, using(crate::specs::Arcs::place_cases))]
 fn place(n: usize, s: usize) -> usize
@@ -24,21 +32,21 @@ fn place(n: usize, s: usize) -> usize
 
 // The state to which edge e leads state s, if s offers it: a climbing state to higher rank, a descending one to a lower marked junction.
 #[tactic(auto, using(crate::specs::Arcs::lead_cases))]
-fn lead_of(map: &Roadmap<'_>, marks: &[bool], s: usize, e: usize) -> Option<usize>
-    requires s_bound { (map.now.times.opened.records.counts.junctions ≤ length marks.now) × (s < map.now.times.opened.records.counts.junctions + map.now.times.opened.records.counts.junctions) }
-    requires e_bound { (e < (volume_of map.now.times.opened.records.bytes.now).edges) × ((volume_of map.now.times.opened.records.bytes.now).edge_from e ≡ place_of map.now.times.opened.records.counts.junctions s) }
-    ensures leads_below { LeadsBelow (map.now.times.opened.records.counts.junctions + map.now.times.opened.records.counts.junctions) result }
-    ensures by_index { (d : ℕ) → MarksBelow (volume_of map.now.times.opened.records.bytes.now) d (volume_of map.now.times.opened.records.bytes.now).junctions marks.now → result ≡ lead_of (web_of (volume_of map.now.times.opened.records.bytes.now) d) s (suc e) }
+fn lead_of(web: &Web<'_>, s: usize, e: usize) -> Option<usize>
+    requires s_bound { s < web.now.map.times.opened.records.counts.junctions + web.now.map.times.opened.records.counts.junctions }
+    requires e_bound { (e < (volume_of web.now.map.times.opened.records.bytes.now).edges) × ((volume_of web.now.map.times.opened.records.bytes.now).edge_from e ≡ place_of web.now.map.times.opened.records.counts.junctions s) }
+    ensures leads_below { LeadsBelow (web.now.map.times.opened.records.counts.junctions + web.now.map.times.opened.records.counts.junctions) result }
+    ensures by_index { (d : ℕ) → MarksBelow (volume_of web.now.map.times.opened.records.bytes.now) d (volume_of web.now.map.times.opened.records.bytes.now).junctions web.now.marks.now → result ≡ lead_of (web_of (volume_of web.now.map.times.opened.records.bytes.now) d) s (suc e) }
 {
-    let n = map.times.opened.records.counts.junctions;
-    let w = map.times.opened.records.edge(e).to;
+    let n = web.map.times.opened.records.counts.junctions;
+    let w = web.map.times.opened.records.edge(e).to;
     if s < n {
         if s < w {
             return Some(w);
         }
         return None;
     }
-    if w < s - n && marks[w] {
+    if w < s - n && web.marks[w] {
         return Some(n + w);
     }
     None
@@ -48,26 +56,25 @@ fn lead_of(map: &Roadmap<'_>, marks: &[bool], s: usize, e: usize) -> Option<usiz
 // chain, as every function here that makes offers does.
 #[tactic(auto, using(crate::specs::Arcs::arc_steps))]
 fn offer_edge(
-    map: &Roadmap<'_>,
-    marks: &[bool],
+    web: &Web<'_>,
     s: usize,
     e: usize,
     arrival: u64,
     head: usize,
     work: &mut [u64],
 ) -> usize
-    requires s_bound { (map.now.times.opened.records.counts.junctions ≤ length marks.now) × (s < map.now.times.opened.records.counts.junctions + map.now.times.opened.records.counts.junctions) }
-    requires e_bound { (e < (volume_of map.now.times.opened.records.bytes.now).edges) × ((volume_of map.now.times.opened.records.bytes.now).edge_from e ≡ place_of map.now.times.opened.records.counts.junctions s) }
-    requires arrival_bound { (arrival < 2 ^ 62) × (8 * map.now.times.opened.records.counts.junctions ≤ length work.old) }
-    ensures does { Does (volume_of map.now.times.opened.records.bytes.now) marks.now work.old work.new (λ W. offer W s arrival (suc e)) }
-    ensures rechained { Rechained (map.now.times.opened.records.counts.junctions + map.now.times.opened.records.counts.junctions) work.old head work.new result }
+    requires s_bound { s < web.now.map.times.opened.records.counts.junctions + web.now.map.times.opened.records.counts.junctions }
+    requires e_bound { (e < (volume_of web.now.map.times.opened.records.bytes.now).edges) × ((volume_of web.now.map.times.opened.records.bytes.now).edge_from e ≡ place_of web.now.map.times.opened.records.counts.junctions s) }
+    requires arrival_bound { (arrival < 2 ^ 62) × (8 * web.now.map.times.opened.records.counts.junctions ≤ length work.old) }
+    ensures does { Does (volume_of web.now.map.times.opened.records.bytes.now) web.now.marks.now work.old work.new (λ W. offer W s arrival (suc e)) }
+    ensures rechained { Rechained (web.now.map.times.opened.records.counts.junctions + web.now.map.times.opened.records.counts.junctions) work.old head work.new result }
 {
-    let Some(to) = lead_of(map, marks, s, e) else {
+    let Some(to) = lead_of(web, s, e) else {
         return head;
     };
     let at = STATE * to;
     if work[at] < SETTLED {
-        let later = arrival + map.times.edge_duration(e, arrival);
+        let later = arrival + web.map.times.edge_duration(e, arrival);
         return offer_to(work, head, to, later, e as u64 + 1);
     }
     head
@@ -75,19 +82,13 @@ fn offer_edge(
 
 // Offers the turn from state s, which is settled at `arrival`: a climbing state its own junction, descending, if marked.
 #[tactic(auto, using(crate::specs::Walk::turn_cases))]
-fn offer_turn(
-    n: usize,
-    marks: &[bool],
-    s: usize,
-    arrival: u64,
-    head: usize,
-    work: &mut [u64],
-) -> usize
-    requires { (n ≤ length marks.now) × (s < n + n) × (8 * n ≤ length work.old) }
-    ensures work_after { work.new ≡ turned marks.now n s arrival head work.old }
-    ensures rechained { Rechained (n + n) work.old head work.new result }
+fn offer_turn(web: &Web<'_>, s: usize, arrival: u64, head: usize, work: &mut [u64]) -> usize
+    requires { (s < web.now.map.times.opened.records.counts.junctions + web.now.map.times.opened.records.counts.junctions) × (8 * web.now.map.times.opened.records.counts.junctions ≤ length work.old) }
+    ensures work_after { work.new ≡ turned web.now.marks.now web.now.map.times.opened.records.counts.junctions s arrival head work.old }
+    ensures rechained { Rechained (web.now.map.times.opened.records.counts.junctions + web.now.map.times.opened.records.counts.junctions) work.old head work.new result }
 {
-    if s < n && marks[s] {
+    let n = web.map.times.opened.records.counts.junctions;
+    if s < n && web.marks[s] {
         return offer_to(work, head, n + s, arrival, 0);
     }
     head
@@ -95,47 +96,34 @@ fn offer_turn(
 
 // All offers of state s, which is settled at `arrival`: the turn, then its own edges in rising order.
 #[tactic(auto, using(crate::specs::Arcs::place_below))]
-fn offer_arcs(
-    map: &Roadmap<'_>,
-    marks: &[bool],
-    s: usize,
-    arrival: u64,
-    head: usize,
-    work: &mut [u64],
-) -> usize
-    requires s_bound { (map.now.times.opened.records.counts.junctions ≤ length marks.now) × (s < map.now.times.opened.records.counts.junctions + map.now.times.opened.records.counts.junctions) }
-    requires arrival_bound { (arrival < 2 ^ 62) × (8 * map.now.times.opened.records.counts.junctions ≤ length work.old) }
-    ensures does { Does (volume_of map.now.times.opened.records.bytes.now) marks.now work.old work.new (λ W. relax W s arrival W.arcs) }
-    ensures rechained { Rechained (map.now.times.opened.records.counts.junctions + map.now.times.opened.records.counts.junctions) work.old head work.new result }
+fn offer_arcs(web: &Web<'_>, s: usize, arrival: u64, head: usize, work: &mut [u64]) -> usize
+    requires s_bound { s < web.now.map.times.opened.records.counts.junctions + web.now.map.times.opened.records.counts.junctions }
+    requires arrival_bound { (arrival < 2 ^ 62) × (8 * web.now.map.times.opened.records.counts.junctions ≤ length work.old) }
+    ensures does { Does (volume_of web.now.map.times.opened.records.bytes.now) web.now.marks.now work.old work.new (λ W. relax W s arrival W.arcs) }
+    ensures rechained { Rechained (web.now.map.times.opened.records.counts.junctions + web.now.map.times.opened.records.counts.junctions) work.old head work.new result }
 {
-    let counts = map.times.opened.records.counts;
+    let counts = web.map.times.opened.records.counts;
     let u = place(counts.junctions, s);
-    let mut front = offer_turn(counts.junctions, marks, s, arrival, head, work);
-    let mut at = map.first(u);
+    let mut front = offer_turn(web, s, arrival, head, work);
+    let mut at = web.map.first(u);
     while let Some(e) = at {
-        front = offer_edge(map, marks, s, e, arrival, front, work);
-        at = map.next(e);
+        front = offer_edge(web, s, e, arrival, front, work);
+        at = web.map.next(e);
     }
     front
 }
 
 // One unit: settles the state that waits, and makes its offers.
-pub fn settle_state(
-    map: &Roadmap<'_>,
-    marks: &[bool],
-    waiting: Waiting,
-    head: usize,
-    work: &mut [u64],
-) -> usize
-    requires s_bound { (map.now.times.opened.records.counts.junctions ≤ length marks.now) × (waiting.state < map.now.times.opened.records.counts.junctions + map.now.times.opened.records.counts.junctions) }
-    requires arrival_bound { (waiting.arrival < 2 ^ 62) × (8 * map.now.times.opened.records.counts.junctions ≤ length work.old) }
+pub fn settle_state(web: &Web<'_>, waiting: Waiting, head: usize, work: &mut [u64]) -> usize
+    requires s_bound { waiting.state < web.now.map.times.opened.records.counts.junctions + web.now.map.times.opened.records.counts.junctions }
+    requires arrival_bound { (waiting.arrival < 2 ^ 62) × (8 * web.now.map.times.opened.records.counts.junctions ≤ length work.old) }
     requires waits_at { WaitsAt work.old waiting.state }
-    requires chained { Chained (map.now.times.opened.records.counts.junctions + map.now.times.opened.records.counts.junctions) work.old head }
-    requires precedes { Precedes (map.now.times.opened.records.counts.junctions + map.now.times.opened.records.counts.junctions) work.old head waiting.before waiting.state }
-    ensures does { Does (volume_of map.now.times.opened.records.bytes.now) marks.now work.old work.new (λ W. settle W waiting.state waiting.arrival) }
-    ensures chained_2 { Chained (map.now.times.opened.records.counts.junctions + map.now.times.opened.records.counts.junctions) work.new result }
+    requires chained { Chained (web.now.map.times.opened.records.counts.junctions + web.now.map.times.opened.records.counts.junctions) work.old head }
+    requires precedes { Precedes (web.now.map.times.opened.records.counts.junctions + web.now.map.times.opened.records.counts.junctions) work.old head waiting.before waiting.state }
+    ensures does { Does (volume_of web.now.map.times.opened.records.bytes.now) web.now.marks.now work.old work.new (λ W. settle W waiting.state waiting.arrival) }
+    ensures chained_2 { Chained (web.now.map.times.opened.records.counts.junctions + web.now.map.times.opened.records.counts.junctions) work.new result }
 {
-    let n = map.times.opened.records.counts.junctions;
+    let n = web.map.times.opened.records.counts.junctions;
     let front = take_out(work, n + n, head, waiting.state, waiting.before);
-    offer_arcs(map, marks, waiting.state, waiting.arrival, front, work)
+    offer_arcs(web, waiting.state, waiting.arrival, front, work)
 }

@@ -39,7 +39,8 @@ fn sooner(best: Option<Waiting>, found: Waiting) -> Option<Waiting>
     best
 }
 
-// The waiting state with the least arrival, the lowest number among equals, from the chain of those that wait.
+// The waiting state with the least arrival, the lowest number among equals, from the chain of those that wait. The chain is of numbers
+// and ends with the number of states, because it stands in the memory that the host lends.
 #[tactic(auto, using(crate::specs::Scan::scan_first, crate::specs::Scan::scan_more))]
 pub fn least_waiting(work: &[u64], states: usize, head: usize) -> Option<Waiting>
     requires { (4 * states ≤ length work.now) × Chained states work.now head }

@@ -2,6 +2,7 @@
 // the sealed words. Of a road with one point, which takes as long at every second, it has the duration, of any other road 0; of an edge
 // the content word at which its pieces begin, and behind the last edge the one at which they end. The edges stand from the first place
 // on and the roads from the last place back, so that a list of any length serves that has a place more than there are roads and edges.
+// Its places are numbers and no options, since the list lies in the fixed memory of a call; `steady` reads them as options.
 ghost use Rattle.std.specs.Prelude.{◌≡◌, ◌+◌, ◌-◌, ◌^◌, ◌≤◌, ◌<◌, ◌≢◌, length, MatchOption};
 ghost use Rattle.records.specs.Format.{volume_of};
 ghost use Rattle.travel.specs.Digest.{steady_of, steady_back, pieces_from, listed, digest_of, Digest};

@@ -7,7 +7,7 @@ use block::content;
 
 // The content word at which the last stands, of n records of `stride` words from word `base` on, whose first word is at most x: one of the
 // `rest` records from word w on, of which half are left out in each turn. Both turns go on with as many, so that the comparison moves w
-// and decides nothing else.
+// and decides nothing else. The library's binary search wants a list of seconds; these stand between other words, and between sums.
 pub fn last_at(v: &[u8], base: usize, stride: usize, n: usize, x: u32) -> usize
     requires { Row v.now base stride n x }
     ensures { result ≡ base + stride * last_le (row_at v.now base stride) n x }

@@ -44,7 +44,8 @@ fn repeat_from(index: &Index<'_>, u: usize, stamps: &mut [u16], least: usize) ->
     least
 }
 
-// The first edge whose two ends an earlier edge has, or E. The stamps are to be clean.
+// The first edge whose two ends an earlier edge has, or E. It is a number and no option, since the pass over the edges ends there in
+// either case. The stamps are to be clean.
 pub fn first_repeat(index: &Index<'_>, stamps: &mut [u16]) -> usize
     requires junctions_bound { index.now.records.counts.junctions < 2 ^ 16 }
     requires stamped { Stamped index.now.records.counts.junctions 0 stamps.old }

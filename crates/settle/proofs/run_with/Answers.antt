@@ -16,8 +16,10 @@ invariant_of-index g c =
     let r = c.args.opened.now.records in
     let zeros = length-replicate {A = ℕ} 1024 0 in
     let more = length-replicate {A = ℕ} g.row.INDEX 0 in
-    record { linked = indexed_linked (volume_of r.bytes.now) _ _ _ _ (omega (arith, r.counted.junctions, c.args.opened.now.sound.junctions_few))
-    (omega (arith, r.counted.edges, c.requires.edges_in_bounds.0)) c.index_edges.ensures }
+    record {
+      linked = indexed_linked (volume_of r.bytes.now) _ _ _ _ (omega (arith, r.counted.junctions, c.args.opened.now.sound.junctions_few))
+          (omega (arith, r.counted.edges, c.requires.edges_in_bounds.0)) c.index_edges.ensures;
+    }
 
 pub mark-requires : goal.mark-requires
 mark-requires g c =
@@ -27,11 +29,13 @@ mark-requires g c =
 pub units-requires-clause-question : goal.units-requires-clause-question
 units-requires-clause-question g c = rw c.new-map.ensures.times.0 c.requires.question
 
-pub units-requires-clause-junctions_in_bounds : goal.units-requires-clause-junctions_in_bounds
-units-requires-clause-junctions_in_bounds g c =
-    let r = c.args.opened.now in
+pub invariant_of-web : goal.invariant_of-web
+invariant_of-web g c =
     let zeros = length-replicate {A = Bool} 1024 false in
-    rw c.new-map.ensures.times.0 (omega (arith, c.mark.ensures.size, r.sound.junctions_few, c.new-map.result.times.opened.records.counted.junctions), c.mark.ensures.marks_at)
+    record { room = omega (arith, c.mark.ensures.size, c.new-map.result.times.opened.sound.junctions_few, c.new-map.result.times.opened.records.counted.junctions) }
+
+pub units-requires-clause-marked : goal.units-requires-clause-marked
+units-requires-clause-marked g c = rw c.new-map.ensures.times.0 c.mark.ensures.marks_at
 
 pub returns : goal.returns
 returns g c = rw c.new-map.ensures.times.0 at c.units.ensures
