@@ -68,7 +68,7 @@ pub fn content_pair(v: &[u8], w: usize) -> Pair
     }
 }
 
-// Writes x as word i of v.
+// Writes x as word i of v. By four stores: with `copy_from_slice` it was tried, and the proof did not close.
 pub fn put_word(v: &mut [u8], i: usize, x: u32)
     requires { 4 * i + 3 < length v.old }
     ensures { v.new ≡ put_word v.old i x }
@@ -81,17 +81,11 @@ pub fn put_word(v: &mut [u8], i: usize, x: u32)
     v[at + 3] = b3;
 }
 
-#[derive(Clone, Copy)]
+// The default is the sums of no words.
+#[derive(Clone, Copy, Default)]
 pub struct Sums {
     pub a: u32,
     pub b: u32,
-}
-
-// The sums of no words.
-fn nothing() -> Sums
-    ensures { (result.a ≡ 0) × (result.b ≡ 0) }
-{
-    Sums { a: 0, b: 0 }
 }
 
 // The sums with one word more: A gains the word, then B gains A.
@@ -109,7 +103,7 @@ fn join(k: usize, l0: Sums, l1: Sums, l2: Sums, l3: Sums) -> Sums
     requires { k < 3381 }
     ensures { Joined k l0 l1 l2 l3 result }
 {
-    let behind = gain(gain(gain(nothing(), l3.a), l2.a), l1.a);
+    let behind = gain(gain(gain(Sums::default(), l3.a), l2.a), l1.a);
     let once = l0
         .b
         .wrapping_add(l1.b)
@@ -131,10 +125,10 @@ fn sums_of(v: &[u8], k: usize) -> Sums
     requires k_bound { k < 3381 }
     ensures { Summed v.now k result }
 {
-    let mut l0 = nothing();
-    let mut l1 = nothing();
-    let mut l2 = nothing();
-    let mut l3 = nothing();
+    let mut l0 = Sums::default();
+    let mut l1 = Sums::default();
+    let mut l2 = Sums::default();
+    let mut l3 = Sums::default();
     for i in 0..31 {
         let at = 128 * k + 4 * i;
         l0 = gain(l0, word(v, at));

@@ -13,14 +13,6 @@ fn in_number(c: char) -> bool {
     c == '-' || c.is_ascii_digit()
 }
 
-// The number x with one character more.
-fn grown(x: u32, c: char) -> u32 {
-    match c.to_digit(10) {
-        Some(digit) => x % 100000000 * 10 + digit,
-        None => EMPTY,
-    }
-}
-
 // Writes x as content word w, of the first million; past the end nothing.
 pub fn put(v: &mut [u8], w: usize, x: u32)
     ensures { v.new ≡ put_content v.old (w % 1000000) x }
@@ -50,7 +42,8 @@ pub fn lay(v: &mut [u8], text: &str)
         .split(|c: char| !in_number(c))
         .filter(|number| !number.is_empty());
     for (w, number) in numbers.enumerate() {
-        put(v, w, number.chars().fold(0, grown));
+        // what does not parse is `-`
+        put(v, w, number.parse().unwrap_or(EMPTY));
     }
     let _ = seal(v);
 }

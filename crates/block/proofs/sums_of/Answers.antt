@@ -7,10 +7,10 @@ use Rattle.block.proofs.sums_of.Goals as goal
 pub loop-i-init : goal.loop-i-init
 loop-i-init c =
     let a = c.args in (
-      lane_start a.v.now a.k 0 _ c.nothing-l0.ensures.0 c.nothing-l0.ensures.1,
-      lane_start a.v.now a.k 1 _ c.nothing-l1.ensures.0 c.nothing-l1.ensures.1,
-      lane_start a.v.now a.k 2 _ c.nothing-l2.ensures.0 c.nothing-l2.ensures.1,
-      lane_start a.v.now a.k 3 _ c.nothing-l3.ensures.0 c.nothing-l3.ensures.1,
+      lane_start a.v.now a.k 0 _ c.default-l0.ensures.0 c.default-l0.ensures.1,
+      lane_start a.v.now a.k 1 _ c.default-l1.ensures.0 c.default-l1.ensures.1,
+      lane_start a.v.now a.k 2 _ c.default-l2.ensures.0 c.default-l2.ensures.1,
+      lane_start a.v.now a.k 3 _ c.default-l3.ensures.0 c.default-l3.ensures.1,
     )
 
 pub loop-i-preserved : goal.loop-i-preserved
