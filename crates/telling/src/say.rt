@@ -33,16 +33,18 @@ impl Display for Found {
     }
 }
 
-// What the search answered, and behind a closed answer its roads, which stand in the path list.
+// What the search answered: the closed answer is taken apart first and has its roads behind it, which stand in the path list; the others
+// are written as they are.
 pub fn reply(rt: &impl Print, reply: Result<Answer, Refusal>, path: &[u32]) -> io::Result<()>
     requires { RoadsFit reply path.now }
     ensures { Unit {0} }
 {
+    let Ok(Answer::Closed(_, _, roads)) = reply else {
+        return print!(rt; "{}", Said(reply));
+    };
     print!(rt; "{}", Said(reply))?;
-    if let Ok(Answer::Closed(_, _, roads)) = reply {
-        for road in &path[..roads] {
-            print!(rt; " {road}")?;
-        }
+    for road in &path[..roads] {
+        print!(rt; " {road}")?;
     }
     Ok(())
 }
