@@ -16,7 +16,7 @@ use crate::refusal::Refusal;
 
 pub mod refusal;
 
-// The word that begins at byte `at` of v, least byte first.
+// The word that begins at byte `at` of v, least byte first. Its four bytes are named, which is no longer than a part of v of that length.
 fn word_from(v: &[u8], at: usize) -> u32
     requires { at + 3 < length v.now }
     ensures { result ≡ word_from v.now at }

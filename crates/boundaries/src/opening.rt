@@ -3,8 +3,8 @@ use block::seal;
 use std::fmt::Display;
 use std::io;
 use telling::line::{heading, told};
-use telling::networks::{ferry, sample};
-use telling::page::{one_block, put, put_row};
+use telling::networks::{FERRY, SAMPLE};
+use telling::page::{lay, one_block, put, put_row};
 use telling::say::Said;
 use volume::open;
 
@@ -21,7 +21,7 @@ pub(crate) fn opens<L: Display + Drop>(
 // The sample with content word w changed to x, sealed again.
 fn with_word(rt: &impl Print, label: &str, w: usize, x: u32, line: &str) -> io::Result<()> {
     let mut v = [0u8; 512];
-    sample(&mut v);
+    lay(&mut v, SAMPLE);
     put(&mut v, w, x);
     let _ = seal(&mut v);
     opens(rt, label, &v, line)
@@ -30,7 +30,7 @@ fn with_word(rt: &impl Print, label: &str, w: usize, x: u32, line: &str) -> io::
 // The sample with road 1 going by the points (t, f) and (u, g).
 fn with_points(rt: &impl Print, t: u32, f: u32, u: u32, g: u32, line: &str) -> io::Result<()> {
     let mut v = [0u8; 512];
-    sample(&mut v);
+    lay(&mut v, SAMPLE);
     put_row(&mut v, 20, &[t, f, u, g]);
     let _ = seal(&mut v);
     opens(rt, format_args!("road 1 by {t} {f} and {u} {g}"), &v, line)
@@ -46,7 +46,7 @@ fn lengths(rt: &impl Print) -> io::Result<()> {
 // A byte of the first block changed, and one of the second.
 fn bytes(rt: &impl Print) -> io::Result<()> {
     let mut v = [0u8; 1024];
-    ferry(&mut v);
+    lay(&mut v, FERRY);
     opens(
         rt,
         "two blocks",
@@ -61,13 +61,13 @@ fn bytes(rt: &impl Print) -> io::Result<()> {
 
 fn too_many_blocks(rt: &impl Print) -> io::Result<()> {
     let mut v = [0u8; 1024];
-    sample(&mut v);
+    lay(&mut v, SAMPLE);
     opens(rt, "one block too many", &v, "refused 4 0")
 }
 
 fn too_few_blocks(rt: &impl Print) -> io::Result<()> {
     let mut v = [0u8; 512];
-    ferry(&mut v);
+    lay(&mut v, FERRY);
     opens(rt, "one block too few", &v, "refused 4 0")
 }
 

@@ -1,5 +1,5 @@
 // The C names, for hosts, tests and benchmarks: each function of the face with its answer as a number and a list of 64-bit numbers.
-// host/breezeflint.h declares them.
+// host/breezeflint.h declares them. The numbers and the parameter lists are the C interface's.
 #![tactic(auto)]
 
 ghost use Rattle.std.specs.Prelude.{◌≡◌, ◌≤◌, length};

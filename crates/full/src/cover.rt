@@ -1,5 +1,5 @@
 // How the edges cover one road, or two edges in turn: document 01, "Full". Both are a `Way`, as a piece goes, so that one search serves
-// both.
+// both. `Known` is asked of a volume and a way together, and a volume has many ways, so no struct says it.
 ghost use Rattle.std.specs.Prelude.{◌≡◌, ◌+◌, ◌≤◌, ◌<◌};
 ghost use Rattle.records.specs.Format.{volume_of};
 ghost use Rattle.block.specs.First.{Found};

@@ -26,7 +26,8 @@ pub fn index_edges(r: &Records<'_>, first: &mut [u16], next: &mut [u16])
     }
 }
 
-// The records with their edges indexed, in lists that someone lends.
+// The records with their edges indexed, in lists that someone lends. Who walks the edges of a junction goes by `first` and `next`, with a
+// `while let` and no `for`: an iterator would be no plainer, since each step asks what the last one found.
 #[derive(Clone, Copy)]
 pub struct Index<'a> {
     pub records: Records<'a>,

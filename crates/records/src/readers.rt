@@ -10,7 +10,7 @@ use crate::tables::{
 };
 use block::{content, content_pair};
 
-// The right of a piece with an empty middle: its left is a road.
+// The right of a piece with an empty middle: its left is a road. It is document 01's number, and is tested in `way_at` alone.
 const EMPTY: usize = 4294967295;
 
 // A volume's bytes, what its head counts, and the content words at which its tables begin.

@@ -1,7 +1,7 @@
 // What the pass over the edges keeps of those that have passed: start, end and span. A pair asks them of its two edges, and reading
 // them from a short list is much cheaper than from the sealed words. They are numbers in a list and no structs, because the list is the
 // one that held the index of the edges: the library has no heap, and the two are never needed at once.
-ghost use Rattle.std.specs.Prelude.{◌≡◌, ◌+◌, ◌*◌, ◌^◌, ◌<◌, length};
+ghost use Rattle.std.specs.Prelude.{◌≡◌, ◌+◌, ◌*◌, ◌^◌, ◌<◌, get_or, length};
 ghost use Rattle.records.specs.Format.{volume_of};
 ghost use Rattle.rules.specs.Kept.{keeping, Kept, Short};
 
@@ -32,6 +32,14 @@ pub struct Passed<'a> {
     pub ghost holds: { Kept (volume_of records.bytes.now) edge kept.now },
 }
 
+// Number i of those kept of edge d.
+pub fn kept_part(kept: &[u16], d: usize, i: usize) -> usize
+    requires { 3 * d + i < length kept.now }
+    ensures { (result ≡ get_or kept.now (3 * d + i) 0) × (result < 2 ^ 16) }
+{
+    kept[PARTS * d + i] as usize
+}
+
 impl Passed<'_> {
     // The ends of edge d.
     pub fn ends(&self, d: usize) -> Ends
@@ -40,8 +48,8 @@ impl Passed<'_> {
         ensures to_value { (result.to ≡ (volume_of self.now.records.bytes.now).edge_to d) × (result.to < 2 ^ 16) }
     {
         Ends {
-            from: self.kept[PARTS * d + START] as usize,
-            to: self.kept[PARTS * d + END] as usize,
+            from: kept_part(self.kept, d, START),
+            to: kept_part(self.kept, d, END),
         }
     }
 
@@ -50,7 +58,7 @@ impl Passed<'_> {
         requires { d < self.now.edge }
         ensures { (result ≡ (volume_of self.now.records.bytes.now).edge_span d) × (result < 2 ^ 16) }
     {
-        self.kept[PARTS * d + SPAN] as usize
+        kept_part(self.kept, d, SPAN)
     }
 }
 

@@ -24,7 +24,8 @@ pub fn is_placed(begin: usize, total: usize, first: usize, number: usize) -> boo
     1 <= number && (first == begin && first + number <= total)
 }
 
-// Does the point (t0, f0) fit before the point (t1, f1)?
+// Does the point (t0, f0) fit before the point (t1, f1)? Seconds and durations by themselves, since the second point may be one of the
+// next period.
 fn point_fits(t0: u64, f0: u64, t1: u64, f1: u64) -> bool
     requires { (t1 < 2 ^ 33) × (f1 < 2 ^ 32) }
     ensures { result ≡ point_fits day t0 f0 t1 f1 }

@@ -4,7 +4,7 @@
 
 use std::io::{self, Write};
 
-// The word of an empty middle.
+// The word of an empty middle: document 01's number.
 const EMPTY: u32 = u32::MAX;
 
 // Head; roads; points; edges; pieces.

@@ -1,5 +1,6 @@
 // The path of a trail: its edges unfolded to roads in driving order, each at its own departure. The roads are counted first, so that a
-// path list with too little room is refused before a single place is written.
+// path list with too little room is refused before a single place is written. `Chain` is about a trail and a departure, and is asked of
+// both at once.
 ghost use Rattle.std.specs.Prelude.{◌≡◌, ◌≤◌, length};
 ghost use Rattle.records.specs.Format.{volume_of};
 ghost use Rattle.travel.specs.Written.{with_roads};

@@ -43,7 +43,8 @@ fn came_from(opened: &Opened<'_>, s: usize, arc: u64) -> usize
     n + from
 }
 
-// Writes the edges of the trail, at most `used` of them, to the last places of `trail`, and answers where they begin.
+// Writes the edges of the trail, at most `used` of them, to the last places of `trail`, and answers where they begin: the list has a
+// fixed length, since the library has no heap.
 pub fn walk_back(
     opened: &Opened<'_>,
     query: Query,

@@ -1,4 +1,5 @@
-// The offers of a settled state.
+// The offers of a settled state. The lent work area and the first of the chain are two parameters: labels.rt says why. That the work area
+// is long enough is asked where it is lent.
 ghost use Rattle.std.specs.Prelude.{◌≡◌, ℕ, suc, ◌+◌, ◌*◌, ◌^◌, ◌≤◌, ◌<◌, length};
 ghost use Rattle.theory.specs.Settling.{offer, relax, settle};
 ghost use Rattle.records.specs.Format.{volume_of};

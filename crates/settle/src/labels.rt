@@ -1,6 +1,6 @@
 // Labels in the work area, and the chain of the states that wait: the last number of a state leads to the next one, and the number of
 // states ends the chain. That they are chained is asked in each contract and is no struct's invariant, since it does not hold between
-// the two numbers that an offer writes.
+// the two numbers that an offer writes: a struct of the list and its first state would be taken apart at each write, and no plainer.
 ghost use Rattle.std.specs.Prelude.{◌≡◌, ◌+◌, ◌*◌, ◌≤◌, ◌<◌, length};
 ghost use Rattle.theory.specs.Settling.{put, settle_label};
 ghost use Rattle.settle.specs.Work.{store, labels, Holds};

@@ -9,7 +9,8 @@ ghost use Rattle.settle.specs.Outcome.{upper_of};
 
 use crate::labels::{ARRIVAL, NEXT, STATE, WAITING};
 
-// A waiting state with its arrival and the state before it in the chain, which is the number of states for the first.
+// A waiting state with its arrival and the state before it in the chain, which is the number of states for the first: a number and no
+// option, as the chain itself has it.
 #[derive(Clone, Copy)]
 pub struct Waiting {
     pub state: usize,

@@ -8,7 +8,8 @@ use search::{Answer, search};
 use std::fmt::{self, Display};
 use std::io;
 use telling::line::{heading, told};
-use telling::networks::{ferry, hill, ring, sample};
+use telling::networks::{FERRY, HILL, RING, SAMPLE};
+use telling::page::lay;
 use telling::say::{Found, Said};
 
 mod bare;
@@ -125,13 +126,13 @@ fn main(rt: HostRuntime) -> io::Result<()> {
         "Every pair of junctions at 54 departures, beside a search over the bare roads",
     )?;
     let mut v = [0u8; 512];
-    sample(&mut v);
+    lay(&mut v, SAMPLE);
     swept(&rt, "the sample", &v)?;
-    hill(&mut v);
+    lay(&mut v, HILL);
     swept(&rt, "round the hill", &v)?;
-    ring(&mut v);
+    lay(&mut v, RING);
     swept(&rt, "the ring", &v)?;
     let mut v = [0u8; 1024];
-    ferry(&mut v);
+    lay(&mut v, FERRY);
     swept(&rt, "the ferry", &v)
 }

@@ -5,7 +5,7 @@ ghost use Rattle.telling.specs.Page.{put_content, put_row};
 
 use block::{put_word, seal};
 
-// The word of an empty middle.
+// The word of an empty middle: document 01's number.
 pub const EMPTY: u32 = u32::MAX;
 
 // Is a character part of a number, or does it stand between two?

@@ -3,7 +3,7 @@
 // the content word at which its pieces begin, and behind the last edge the one at which they end. The edges stand from the first place
 // on and the roads from the last place back, so that a list of any length serves that has a place more than there are roads and edges.
 // Its places are numbers and no options, since the list lies in the fixed memory of a call; `steady` reads them as options.
-ghost use Rattle.std.specs.Prelude.{◌≡◌, ◌+◌, ◌-◌, ◌^◌, ◌≤◌, ◌<◌, ◌≢◌, length, MatchOption};
+ghost use Rattle.std.specs.Prelude.{◌≡◌, ◌+◌, ◌-◌, ◌^◌, ◌≤◌, ◌<◌, ◌≢◌, get_or, length, MatchOption};
 ghost use Rattle.records.specs.Format.{volume_of};
 ghost use Rattle.travel.specs.Digest.{steady_of, steady_back, pieces_from, listed, digest_of, Digest};
 
@@ -61,6 +61,22 @@ pub fn make_digest(opened: &Opened<'_>, digest: &mut [u32])
     list_roads(opened, digest);
 }
 
+// What a digest has of road k.
+pub fn steady_at(digest: &[u32], k: usize) -> u64
+    requires { k < length digest.now }
+    ensures { result ≡ get_or digest.now (length digest.now - 1 - k) 0 }
+{
+    digest[digest.len() - 1 - k] as u64
+}
+
+// What a digest has of edge e.
+pub fn pieces_at(digest: &[u32], e: usize) -> usize
+    requires { e < length digest.now }
+    ensures { (result ≡ get_or digest.now e 0) × (result < 2 ^ 32) }
+{
+    digest[e] as usize
+}
+
 // A volume that has opened, with its digest in a list that someone lends.
 #[derive(Clone, Copy)]
 pub struct Timetable<'a> {
@@ -75,9 +91,9 @@ impl Timetable<'_> {
         requires { k < (volume_of self.now.opened.records.bytes.now).roads }
         ensures { MatchOption result (steady_of (volume_of self.now.opened.records.bytes.now) k ≡ 0) (λ d. (d ≡ steady_of (volume_of self.now.opened.records.bytes.now) k) × (d ≢ 0)) }
     {
-        match self.digest[self.digest.len() - 1 - k] {
+        match steady_at(self.digest, k) {
             0 => None,
-            d => Some(d as u64),
+            d => Some(d),
         }
     }
 
@@ -86,6 +102,6 @@ impl Timetable<'_> {
         requires { e ≤ (volume_of self.now.opened.records.bytes.now).edges }
         ensures { (result ≡ pieces_from (volume_of self.now.opened.records.bytes.now) e) × (result < 2 ^ 32) }
     {
-        self.digest[e] as usize
+        pieces_at(self.digest, e)
     }
 }

@@ -1,5 +1,6 @@
 // How long an edge takes at a departure: document 01, "Travel time". The edge asks its piece in force, and the piece asks the edges
-// below: one cycle of calls, in which the edge number falls. What the digest has is not read from the sealed words.
+// below: one cycle of calls, in which the edge number falls. What the digest has is not read from the sealed words. `Enters` stands in
+// each contract and in no struct: it is about an edge and a departure, and these are new ones at each call.
 ghost use Rattle.std.specs.Prelude.{◌≡◌, ◌+◌, ◌%◌, ◌<◌};
 ghost use Rattle.records.specs.Format.{volume_of};
 ghost use Rattle.travel.specs.Network.{piece_at, road_time, Enters, arrival};

@@ -7,7 +7,8 @@ ghost use Rattle.records.specs.Index.{Linked, next_from};
 use crate::digest::Timetable;
 use records::index::Index;
 
-// The times of an opened volume, with the index of its edges in lists that someone lends.
+// The times of an opened volume, with the index of its edges in lists that someone lends. With an `Index` in it the records would stand
+// in it twice, and it would have to say that the two are one.
 #[derive(Clone, Copy)]
 pub struct Roadmap<'a> {
     pub times: Timetable<'a>,

@@ -2,8 +2,8 @@
 use full::check;
 use std::io;
 use telling::line::{heading, told};
-use telling::networks::sample;
-use telling::page::one_block;
+use telling::networks::SAMPLE;
+use telling::page::{lay, one_block};
 use telling::say::{Found, Said};
 
 // The line of the full check of v.
@@ -54,7 +54,7 @@ fn neighbours(rt: &impl Print) -> io::Result<()> {
 pub(crate) fn fullness(rt: &impl Print) -> io::Result<()> {
     heading(rt, "The full check of the sample and of its neighbours")?;
     let mut v = [0u8; 512];
-    sample(&mut v);
+    lay(&mut v, SAMPLE);
     checked(rt, "the sample", &v, "full")?;
     neighbours(rt)?;
     checked(rt, "no byte", &v[..0], "refused 1 0")

@@ -5,7 +5,8 @@ ghost use Rattle.std.specs.Prelude.{◌≤◌};
 use search::search;
 use std::io;
 use telling::line::{Question, asked, heading};
-use telling::networks::{ferry, sample};
+use telling::networks::{FERRY, SAMPLE};
+use telling::page::lay;
 
 fn question(from: u32, to: u32, departure: u32, budget: u32) -> Question {
     Question {
@@ -104,7 +105,7 @@ fn window(rt: &impl Print) -> io::Result<()> {
         "Questions to the ferry: a later arrival is found before the least",
     )?;
     let mut v = [0u8; 1024];
-    ferry(&mut v);
+    lay(&mut v, FERRY);
     ask(
         rt,
         &v,
@@ -122,7 +123,7 @@ fn window(rt: &impl Print) -> io::Result<()> {
 pub(crate) fn questions(rt: &impl Print) -> io::Result<()> {
     heading(rt, "Questions to the sample")?;
     let mut v = [0u8; 512];
-    sample(&mut v);
+    lay(&mut v, SAMPLE);
     cases(rt, &v)?;
     refusals(rt, &v)?;
     lists(rt, &v)?;

@@ -2,7 +2,8 @@
 use block::refusal::Refusal;
 use std::io;
 use telling::line::{heading, told};
-use telling::networks::sample;
+use telling::networks::SAMPLE;
+use telling::page::lay;
 use telling::say::Said;
 use travel::{edge_time, road_time};
 
@@ -59,7 +60,7 @@ fn timed<F: Fn(&[u8], u32, u32) -> Result<u64, Refusal>>(
 pub(crate) fn times(rt: &impl Print) -> io::Result<()> {
     heading(rt, "Travel times of the sample")?;
     let mut v = [0u8; 512];
-    sample(&mut v);
+    lay(&mut v, SAMPLE);
     timed(rt, &v, "road", road_time, &ROADS)?;
     timed(rt, &v, "edge", edge_time, &EDGES)
 }

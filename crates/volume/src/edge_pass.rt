@@ -62,7 +62,8 @@ fn pass_with<const J: usize, const L: usize>(r: &Records<'_>) -> Result<(), Refu
 }
 
 // The pass over all edges: refuses the first at fault, or E where pieces are left over. Long lists take longer to make than a small
-// volume takes to read, so fewer edges get shorter lists.
+// volume takes to read, so fewer edges get shorter lists. That the counts are few is asked here and is no field of `Records`, since the
+// pass over the roads may not ask it.
 pub fn edges_pass(r: &Records<'_>) -> Result<(), Refusal>
     requires { Few r.now.counts }
     ensures { result ≡ edges_pass (volume_of r.now.bytes.now) }
