@@ -1,5 +1,4 @@
-use mathlib.Core.Path.{◌≡◌, ◌∙◌, ap, sym}
-use Rattle.std.specs.Prelude.{Ok}
+use mathlib.Core.Path.{◌≡◌, sym}
 use Rattle.std.proofs.lemmas.List.{length-take-le}
 use Rattle.search.specs.declared.Answer.TheVariants.{Closed}
 use Rattle.telling.proofs.say.reply.Goals as goal
