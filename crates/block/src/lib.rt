@@ -43,6 +43,7 @@ fn block_of(w: usize) -> usize
 
 // Content word w of v: two sums, 8 bytes, stand behind the content of each block before. The place is a sum of bytes and not of words,
 // since the compiler makes such a sum a part of the reading instruction.
+// `Holds` is a bound of w, and is asked where w is handed over.
 pub fn content(v: &[u8], w: usize) -> u32
     requires { Holds v.now w }
     ensures { result ≡ content_at v.now w }

@@ -1,4 +1,5 @@
-// Writing an answer to the first places of the list `out` that a host lends.
+// Writing an answer to the first places of the list `out` that a host lends. That it has 8 places the functions under C names test, and
+// those below them ask.
 ghost use Rattle.std.specs.Prelude.{◌≡◌, ◌≤◌, [], ◌∷◌, length};
 ghost use Rattle.block.specs.Refusal.{number_of, place_of};
 ghost use Rattle.exports.specs.Told.{with_first};

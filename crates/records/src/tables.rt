@@ -105,6 +105,7 @@ pub fn tables_of(c: Counts) -> Tables
 }
 
 // How many content words there are in all.
+// `Few` is asked here and of `tables_of`, since `Records` is made of what they answer.
 pub fn words_of(c: Counts) -> usize
     requires { Few c }
     ensures { result ≡ words_in c }

@@ -10,6 +10,7 @@ use records::tables::PERIOD;
 const LONGEST: u64 = 86400;
 
 // Do two ends differ and lie below n?
+// By themselves, since a road and an edge have them among their fields.
 pub fn ends_fit(n: usize, from: usize, to: usize) -> bool
     ensures { result ≡ ends_fit n from to }
 {

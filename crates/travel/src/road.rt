@@ -11,6 +11,7 @@ use records::tables::{PERIOD, POINT_WORDS};
 use volume::sound::Opened;
 
 // The duration at x between the points (t0, f0) and (t1, f1).
+// Seconds and durations by themselves, since the second point may be one of the next period.
 fn line(t0: u64, f0: u64, t1: u64, f1: u64, x: u64) -> u64
     requires ends { Ends t0 f0 t1 f1 x }
     requires t1_bound { t1 < 2 ^ 34 }
