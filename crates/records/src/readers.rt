@@ -46,7 +46,8 @@ pub fn way_at(v: &[u8], w: usize) -> Way
     }
 }
 
-// Road k. Its first word stands at an even place, so its four words are two pairs.
+// Road k. Its first word stands at an even place, so its four words are two pairs. It and `point_at` stand beside the methods of
+// `Records`, since they ask less.
 pub fn road_at(v: &[u8], t: Tables, k: usize) -> Road
     requires laid { Laid v.now t }
     requires k_bound { k < (volume_of v.now).roads }

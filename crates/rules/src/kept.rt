@@ -32,7 +32,7 @@ pub struct Passed<'a> {
     pub ghost holds: { Kept (volume_of records.bytes.now) edge kept.now },
 }
 
-// Number i of those kept of edge d.
+// Number i of those kept of edge d. It stands beside the methods of `Passed`, since it says it of any list.
 pub fn kept_part(kept: &[u16], d: usize, i: usize) -> usize
     requires { 3 * d + i < length kept.now }
     ensures { (result ≡ get_or kept.now (3 * d + i) 0) × (result < 2 ^ 16) }

@@ -44,7 +44,8 @@ impl fmt::Display for Answer {
     }
 }
 
-// The answer where the rule has closed: the path is written, or refused where it has more roads than room.
+// The answer where the rule has closed: the path is written, or refused where it has more roads than room. Its six parameters meet in
+// no other function.
 fn close(
     opened: &Opened<'_>,
     query: Query,
@@ -111,7 +112,8 @@ fn search_open(
     r
 }
 
-// The earliest arrival from `from` to `to` at a departure, or how far the budget went, with the roads to drive in the path list.
+// The earliest arrival from `from` to `to` at a departure, or how far the budget went, with the roads to drive in the path list. Its
+// parameters are the C name's.
 pub fn search(
     v: &[u8],
     from: u32,

@@ -61,7 +61,7 @@ pub fn make_digest(opened: &Opened<'_>, digest: &mut [u32])
     list_roads(opened, digest);
 }
 
-// What a digest has of road k.
+// What a digest has of road k. It and `pieces_at` stand beside the methods of `Timetable`, since they say it of any list.
 pub fn steady_at(digest: &[u32], k: usize) -> u64
     requires { k < length digest.now }
     ensures { result ≡ get_or digest.now (length digest.now - 1 - k) 0 }

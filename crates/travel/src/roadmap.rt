@@ -18,7 +18,7 @@ pub struct Roadmap<'a> {
 }
 
 impl<'a> Roadmap<'a> {
-    // The times of a volume with the index of its edges.
+    // The times of a volume with the index of its edges. That the lists link the edges is asked here, once.
     pub fn new(times: Timetable<'a>, first: &'a [u16], next: &'a [u16]) -> Self
         requires { Linked (volume_of times.opened.records.bytes.now) first.now next.now }
         ensures times { (result.times.opened.records.bytes.now ≡ times.entry.opened.records.bytes.now) × (result.times.digest.now ≡ times.entry.digest.now) }

@@ -45,7 +45,7 @@ fn repeat_from(index: &Index<'_>, u: usize, stamps: &mut [u16], least: usize) ->
 }
 
 // The first edge whose two ends an earlier edge has, or E. It is a number and no option, since the pass over the edges ends there in
-// either case. The stamps are to be clean.
+// either case. The stamps are to be clean: that is asked and is no field, since the list is lent to be changed.
 pub fn first_repeat(index: &Index<'_>, stamps: &mut [u16]) -> usize
     requires junctions_bound { index.now.records.counts.junctions < 2 ^ 16 }
     requires stamped { Stamped index.now.records.counts.junctions 0 stamps.old }
