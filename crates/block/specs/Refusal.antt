@@ -6,32 +6,32 @@ use Rattle.block.specs.declared.refusal.Refusal.{Refusal}
 use Rattle.block.specs.declared.refusal.Refusal.TheVariants.{Length, Sums, Edition, Head, Road, Edge, Unknown, UnknownDestination, Work, Path, Arrival}
 
 -- the numbers, in the document's order
-abbrev pub number_of : Refusal → ℕ
-number_of Length = 1
-number_of (Sums k) = 2
-number_of Edition = 3
-number_of Head = 4
-number_of (Road k) = 5
-number_of (Edge e) = 6
-number_of Unknown = 7
-number_of UnknownDestination = 7
-number_of Work = 8
-number_of (Path n) = 9
-number_of Arrival = 10
+abbrev pub refusal_number : Refusal → ℕ
+refusal_number Length = 1
+refusal_number (Sums k) = 2
+refusal_number Edition = 3
+refusal_number Head = 4
+refusal_number (Road k) = 5
+refusal_number (Edge e) = 6
+refusal_number Unknown = 7
+refusal_number UnknownDestination = 7
+refusal_number Work = 8
+refusal_number (Path n) = 9
+refusal_number Arrival = 10
 
 -- the places: the block, the road, the edge, 1 for the destination, the roads needed; else 0
-abbrev pub place_of : Refusal → ℕ
-place_of Length = 0
-place_of (Sums k) = k
-place_of Edition = 0
-place_of Head = 0
-place_of (Road k) = k
-place_of (Edge e) = e
-place_of Unknown = 0
-place_of UnknownDestination = 1
-place_of Work = 0
-place_of (Path n) = n
-place_of Arrival = 0
+abbrev pub refusal_place : Refusal → ℕ
+refusal_place Length = 0
+refusal_place (Sums k) = k
+refusal_place Edition = 0
+refusal_place Head = 0
+refusal_place (Road k) = k
+refusal_place (Edge e) = e
+refusal_place Unknown = 0
+refusal_place UnknownDestination = 1
+refusal_place Work = 0
+refusal_place (Path n) = n
+refusal_place Arrival = 0
 
 -- a refusal back from its number and place
 abbrev pub refusal_by : ℕ → ℕ → Refusal
@@ -48,7 +48,7 @@ refusal_by (suc (suc (suc (suc (suc (suc (suc (suc zero)))))))) place = Work
 refusal_by (suc (suc (suc (suc (suc (suc (suc (suc (suc zero))))))))) place = Path place
 refusal_by (suc (suc (suc (suc (suc (suc (suc (suc (suc (suc n)))))))))) place = Arrival
 
-pub refusal_back : (why : Refusal) → refusal_by (number_of why) (place_of why) ≡ why
+pub refusal_back : (why : Refusal) → refusal_by (refusal_number why) (refusal_place why) ≡ why
 refusal_back Length = refl
 refusal_back (Sums k) = refl
 refusal_back Edition = refl
@@ -62,5 +62,5 @@ refusal_back (Path n) = refl
 refusal_back Arrival = refl
 
 -- no two refusals have the same number and place
-pub refusals_tell : (a b : Refusal) → number_of a ≡ number_of b → place_of a ≡ place_of b → a ≡ b
+pub refusals_tell : (a b : Refusal) → refusal_number a ≡ refusal_number b → refusal_place a ≡ refusal_place b → a ≡ b
 refusals_tell a b e f = sym (refusal_back a) ∙ ap₂ refusal_by e f ∙ refusal_back b

@@ -7,7 +7,7 @@ use Rattle.block.specs.Sums.{check_a, check_b}
 use Rattle.block.specs.Whole.{whole}
 use Rattle.block.specs.declared.refusal.Refusal.{Refusal}
 use Rattle.block.specs.declared.refusal.Refusal.TheVariants.{Length}
-use Rattle.block.specs.Refusal.{number_of}
+use Rattle.block.specs.Refusal.{refusal_number}
 
 -- the first k blocks sealed: each block's A is written as its word 126 and its B as its word 127
 unfoldable pub seal_to : List ℕ → ℕ → List ℕ
@@ -27,7 +27,7 @@ sealing v = choose (whole (length v)) (Ok tt) (Err Length)
 -- the document's number of each answer: 0, or the refusal's
 abbrev pub paper : Result Unit Refusal → ℕ
 paper (Ok u) = 0
-paper (Err why) = number_of why
+paper (Err why) = refusal_number why
 
 -- one block more
 pub seal_to_next : (v : List ℕ) (k : ℕ)

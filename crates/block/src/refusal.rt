@@ -1,6 +1,6 @@
 // Why a call is refused: the refusals of document 01, with their numbers and places. Every crate above refuses by one of these.
 ghost use Rattle.std.specs.Prelude.{◌≡◌};
-ghost use Rattle.block.specs.Refusal.{number_of, place_of};
+ghost use Rattle.block.specs.Refusal.{refusal_number, refusal_place};
 
 use std::error::Error;
 use std::fmt;
@@ -34,7 +34,7 @@ pub enum Refusal {
 impl Refusal {
     // The document's number of the refusal.
     pub fn number(self) -> u32
-        ensures { result ≡ number_of self }
+        ensures { result ≡ refusal_number self }
     {
         match self {
             Refusal::Length => 1,
@@ -53,7 +53,7 @@ impl Refusal {
 
     // Where the refusal lies: a block, a road, an edge, or how many roads the path has; 1 for the destination, else 0.
     pub fn place(self) -> u64
-        ensures { result ≡ place_of self }
+        ensures { result ≡ refusal_place self }
     {
         match self {
             Refusal::Sums(block) => block as u64,

@@ -1,7 +1,7 @@
 -- The number and the values that tell each answer of the face, as host/breezeflint.h says them.
 use Rattle.std.specs.Prelude.{ℕ, ◌≡◌, refl, List, [], ◌∷◌, Option, Some, None, Result, Ok, Err}
 use Rattle.block.specs.Seal.{sealing, paper}
-use Rattle.block.specs.Refusal.{number_of, place_of}
+use Rattle.block.specs.Refusal.{refusal_number, refusal_place}
 use Rattle.block.specs.declared.refusal.Refusal.{Refusal}
 use Rattle.records.specs.declared.tables.Counts.{Counts}
 use Rattle.full.specs.declared.Fault.{Fault}
@@ -17,7 +17,7 @@ abbrev pub refused : ℕ → ℕ → Told
 refused number place = record { number = number; values = place ∷ [] }
 
 abbrev pub refusal_told : Refusal → Told
-refusal_told why = refused (number_of why) (place_of why)
+refusal_told why = refused (refusal_number why) (refusal_place why)
 
 -- sealing: 0, or the refusal's number
 abbrev pub sealing_number : List ℕ → ℕ

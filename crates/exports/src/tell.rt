@@ -1,7 +1,7 @@
 // Writing an answer to the first places of the list `out` that a host lends. That it has 8 places the functions under C names test, and
 // those below them ask.
 ghost use Rattle.std.specs.Prelude.{◌≡◌, ◌≤◌, [], ◌∷◌, length};
-ghost use Rattle.block.specs.Refusal.{number_of, place_of};
+ghost use Rattle.block.specs.Refusal.{refusal_number, refusal_place};
 ghost use Rattle.exports.specs.Told.{with_first};
 
 use block::refusal::Refusal;
@@ -18,7 +18,7 @@ pub fn tell(out: &mut [u64], values: &[u64]) -> u32
 // Writes the refusal's place to the first place, and answers its number.
 pub fn refuse(out: &mut [u64], why: Refusal) -> u32
     requires { 1 ≤ length out.old }
-    ensures { (result ≡ number_of why) × (out.new ≡ with_first (place_of why ∷ []) out.old) }
+    ensures { (result ≡ refusal_number why) × (out.new ≡ with_first (refusal_place why ∷ []) out.old) }
 {
     out[0] = why.place();
     why.number()

@@ -9,7 +9,7 @@ use Rattle.volume.specs.Opened.{opened}
 use Rattle.travel.specs.Network.{network_of, sound_network}
 use Rattle.full.specs.declared.Fault.{Fault}
 use Rattle.full.specs.declared.Fault.TheVariants.{RoadMissing, RoadLate, PairMissing, PairLate}
-use Rattle.block.specs.Refusal.{number_of}
+use Rattle.block.specs.Refusal.{refusal_number}
 use Rattle.volume.specs.Open.{open_of}
 use Rattle.full.specs.Fault.{Verdict, verdict_of}
 use Rattle.full.specs.Paper.{refusal, paper, paper_tells}
@@ -57,7 +57,7 @@ refused_by_six v number place e = go (verdict_of v) refl e
   where
     go : (a : Verdict) → verdict_of v ≡ a → paper a ≡ refusal number place → (1 ≤ number) × (number ≤ 6)
     go (Err why) q f =
-        let n : number_of why ≡ number = (cc) in
+        let n : refusal_number why ≡ number = (cc) in
         let opened : open_of v ≡ Err why = rw q at (answer_holds v) in
         rw n at (rw opened at (opening_numbered v))
     go (Ok a) q f = absurd (no_refusal a number place f)

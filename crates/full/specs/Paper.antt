@@ -1,7 +1,7 @@
 -- The document's numbers and values of each answer of the check, and that they tell the answers apart.
 use Rattle.std.specs.Prelude.{ℕ, zero, suc, ◌≡◌, refl, Some, None, Ok, Err}
 use Rattle.std.proofs.Common.{ap, sym, ◌∙◌}
-use Rattle.block.specs.Refusal.{number_of, place_of, refusal_by, refusal_back}
+use Rattle.block.specs.Refusal.{refusal_number, refusal_place, refusal_by, refusal_back}
 use Rattle.full.specs.Fault.{Verdict}
 use Rattle.full.specs.declared.Fault.TheVariants.{RoadMissing, RoadLate, PairMissing, PairLate}
 
@@ -18,7 +18,7 @@ paper (Ok (Some (RoadMissing k))) = found 1 k 0 0
 paper (Ok (Some (RoadLate k x))) = found 2 k 0 x
 paper (Ok (Some (PairMissing l r))) = found 3 l r 0
 paper (Ok (Some (PairLate l r x))) = found 4 l r x
-paper (Err why) = refusal (number_of why) (place_of why)
+paper (Err why) = refusal (refusal_number why) (refusal_place why)
 
 -- the answer back from its numbers
 abbrev answer_by : Paper → Verdict

@@ -42,9 +42,9 @@ entry_found counted e k edges c is high = go (ltb e counted) (ltb-true e counted
     go false below above = omega (arith, above refl)
 
 -- where a walk over the edges of a junction is: at an edge, or behind the last one
-abbrev pub place_of : Option ℕ → ℕ → ℕ
-place_of (Some e) edges = e
-place_of None edges = edges
+abbrev pub walk_at : Option ℕ → ℕ → ℕ
+walk_at (Some e) edges = e
+walk_at None edges = edges
 
 -- an edge that it is at is one of the volume
 abbrev pub Within : Option ℕ → ℕ → Type 0
@@ -52,7 +52,7 @@ Within (Some e) edges = e < edges
 Within None edges = Unit {0}
 
 -- what is found is where the walk is
-pub found_place : (at : Option ℕ) (k edges : ℕ) → Found at k edges → place_of at edges ≡ k
+pub found_place : (at : Option ℕ) (k edges : ℕ) → Found at k edges → walk_at at edges ≡ k
 found_place (Some e) k edges f = f.0
 found_place None k edges f = sym f
 
@@ -249,15 +249,15 @@ module _ (vol : Volume) (first₀ next₀ first next : List ℕ) (k e from : ℕ
         later d h l b (no ne) = I.nexts d (omega arith) l b
 
 -- a walk over the edges of u goes on from edge e
-pub record Onward (vol : Volume) (u e : ℕ) (at : Option ℕ) : Type 0 where
+pub record StepsOn (vol : Volume) (u e : ℕ) (at : Option ℕ) : Type 0 where
   pub within : Within at vol.edges
-  pub place : place_of at vol.edges ≡ next_from vol u (e + 1)
-  pub nearer : vol.edges - place_of at vol.edges < vol.edges - e
+  pub place : walk_at at vol.edges ≡ next_from vol u (e + 1)
+  pub nearer : vol.edges - walk_at at vol.edges < vol.edges - e
 
 pub walk_on : (vol : Volume) (u e : ℕ) (at : Option ℕ) → e < vol.edges → vol.edge_from e ≡ u
-    → Found at (next_from vol (vol.edge_from e) (e + 1)) vol.edges → Onward vol u e at
+    → Found at (next_from vol (vol.edge_from e) (e + 1)) vol.edges → StepsOn vol u e at
 walk_on vol u e at lt from found =
-    let here : place_of at vol.edges ≡ next_from vol u (e + 1) = found_place at _ vol.edges found ∙ ap (λ (w : ℕ). next_from vol w (e + 1)) from in
+    let here : walk_at at vol.edges ≡ next_from vol u (e + 1) = found_place at _ vol.edges found ∙ ap (λ (w : ℕ). next_from vol w (e + 1)) from in
     record {
       within = found_within at _ vol.edges found;
       place = here;

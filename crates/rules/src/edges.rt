@@ -4,7 +4,7 @@ ghost use Rattle.records.specs.Format.{volume_of, day};
 ghost use Rattle.rules.specs.Rules.{begins, road_joins, meet, pair_joins, start_fits, edge_rule};
 ghost use Rattle.rules.specs.EdgeSteps.{piece_fit, pieces_fit, Fresh};
 
-use crate::kept::{Ends, Passed};
+use crate::kept::{Earlier, Ends};
 use crate::roads::{ends_fit, is_placed};
 use records::readers::Records;
 use records::tables::{PERIOD, Way};
@@ -32,7 +32,7 @@ fn do_meet(l: Ends, r: Ends, over: Ends) -> bool
 
 // Have l and r passed, and do they lead in turn from and to as `over` says, and meet below both? Their four ends are read before any is
 // compared, so that no read waits for a comparison.
-fn pair_joins(passed: &Passed<'_>, l: usize, r: usize, over: Ends) -> bool
+fn pair_joins(passed: &Earlier<'_>, l: usize, r: usize, over: Ends) -> bool
     ensures { result ≡ pair_joins (volume_of passed.now.records.bytes.now) passed.now.edge l r over.from over.to }
 {
     if passed.edge <= l {
@@ -45,7 +45,7 @@ fn pair_joins(passed: &Passed<'_>, l: usize, r: usize, over: Ends) -> bool
 }
 
 // The span of piece p of the edge, whose ends are `over`, if it fits.
-fn piece_fit(passed: &Passed<'_>, p: usize, over: Ends) -> Option<usize>
+fn piece_fit(passed: &Earlier<'_>, p: usize, over: Ends) -> Option<usize>
     requires p_bound { p < (volume_of passed.now.records.bytes.now).pieces }
     requires over_value { (over.from ≡ (volume_of passed.now.records.bytes.now).edge_from passed.now.edge) × (over.to ≡ (volume_of passed.now.records.bytes.now).edge_to passed.now.edge) }
     ensures { result ≡ piece_fit (volume_of passed.now.records.bytes.now) passed.now.edge p }
@@ -76,7 +76,7 @@ fn start_fits(i: usize, before: u64, start: u64) -> bool
 }
 
 // The greatest span of the pieces of the edge, if they all fit.
-fn pieces_fit(passed: &Passed<'_>) -> Option<usize>
+fn pieces_fit(passed: &Earlier<'_>) -> Option<usize>
     requires { (passed.now.edge < (volume_of passed.now.records.bytes.now).edges) × ((volume_of passed.now.records.bytes.now).edge_first passed.now.edge + (volume_of passed.now.records.bytes.now).edge_pieces passed.now.edge ≤ (volume_of passed.now.records.bytes.now).pieces) }
     ensures { result ≡ pieces_fit (volume_of passed.now.records.bytes.now) passed.now.edge }
 {
@@ -101,7 +101,7 @@ fn pieces_fit(passed: &Passed<'_>) -> Option<usize>
 }
 
 // Does the edge obey, where no earlier one has its ends? Its pieces are to begin at `begin`.
-pub fn edge_fits(passed: &Passed<'_>, begin: usize) -> bool
+pub fn edge_fits(passed: &Earlier<'_>, begin: usize) -> bool
     requires e_bound { passed.now.edge < (volume_of passed.now.records.bytes.now).edges }
     requires fresh { Fresh (volume_of passed.now.records.bytes.now) passed.now.edge }
     requires begin_value { begin ≡ begins (volume_of passed.now.records.bytes.now).edge_first (volume_of passed.now.records.bytes.now).edge_pieces passed.now.edge }

@@ -25,14 +25,14 @@ pub struct Ends {
 
 // The edges before edge `edge` have passed, and this is kept of them.
 #[derive(Clone, Copy)]
-pub struct Passed<'a> {
+pub struct Earlier<'a> {
     pub records: Records<'a>,
     pub edge: usize,
     pub kept: &'a [u16],
     pub ghost holds: { Kept (volume_of records.bytes.now) edge kept.now },
 }
 
-// Number i of those kept of edge d. It stands beside the methods of `Passed`, since it says it of any list.
+// Number i of those kept of edge d. It stands beside the methods of `Earlier`, since it says it of any list.
 pub fn kept_part(kept: &[u16], d: usize, i: usize) -> usize
     requires { 3 * d + i < length kept.now }
     ensures { (result ≡ get_or kept.now (3 * d + i) 0) × (result < 2 ^ 16) }
@@ -40,7 +40,7 @@ pub fn kept_part(kept: &[u16], d: usize, i: usize) -> usize
     kept[PARTS * d + i] as usize
 }
 
-impl Passed<'_> {
+impl Earlier<'_> {
     // The ends of edge d.
     pub fn ends(&self, d: usize) -> Ends
         requires { d < self.now.edge }

@@ -9,7 +9,7 @@ use Rattle.records.specs.Format.{Volume, volume_of}
 use Rattle.volume.specs.Open.{open_of}
 use Rattle.block.specs.declared.refusal.Refusal.{Refusal}
 use Rattle.block.specs.declared.refusal.Refusal.TheVariants.{Unknown, UnknownDestination, Work, Path, Arrival}
-use Rattle.block.specs.Refusal.{number_of, place_of}
+use Rattle.block.specs.Refusal.{refusal_number, refusal_place}
 use Rattle.records.specs.declared.tables.Counts.{Counts}
 use Rattle.travel.specs.Network.{network_of}
 use Rattle.travel.specs.Written.{with_roads}
@@ -88,7 +88,7 @@ abbrev pub work_after : Reply → ℕ → List ℕ → List ℕ
 work_after (Ok (Closed a u k)) n before = cleared before n
 work_after (Ok (NoWay u)) n before = cleared before n
 work_after (Ok (Open l h u)) n before = cleared before n
-work_after (Err why) n before = choose (leb (number_of why) 8) before (cleared before n)
+work_after (Err why) n before = choose (leb (refusal_number why) 8) before (cleared before n)
 
 -- the path list after the answer: it changes only on a closed answer, and only its first places, one for each road
 abbrev pub path_after : Reply → List ℕ → List ℕ → List ℕ
@@ -120,7 +120,7 @@ abbrev pub paper : Reply → Paper
 paper (Ok (Closed arrival used roads)) = record { number = 0; values = arrival ∷ used ∷ roads ∷ [] }
 paper (Ok (NoWay used)) = record { number = 0; values = used ∷ [] }
 paper (Ok (Open lower upper used)) = record { number = 0; values = lower ∷ (upper_value upper ++ (used ∷ [])) }
-paper (Err why) = record { number = number_of why; values = place_of why ∷ [] }
+paper (Err why) = record { number = refusal_number why; values = refusal_place why ∷ [] }
 
 -- the number of an answer, by which the promises tell refusals apart
 abbrev pub number : Reply → ℕ

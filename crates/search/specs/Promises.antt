@@ -18,7 +18,7 @@ use Rattle.volume.specs.Opened.{opened}
 use Rattle.records.specs.declared.tables.Counts.{Counts}
 use Rattle.block.specs.declared.refusal.Refusal.{Refusal}
 use Rattle.block.specs.declared.refusal.Refusal.TheVariants.{Path}
-use Rattle.block.specs.Refusal.{number_of}
+use Rattle.block.specs.Refusal.{refusal_number}
 use Rattle.travel.specs.Network.{network_of, sound_network}
 use Rattle.settle.specs.Work.{cleared}
 use Rattle.settle.specs.Units.{Question}
@@ -48,18 +48,18 @@ module _ {v : List ℕ} {from to x b : ℕ} {work path : List ℕ} where
       )
 
   -- a refusal has one of the document's numbers
-  pub refusal_numbered : {why : Refusal} {w p : List ℕ} → Searched v from to x b work path (Err why) w p → (1 ≤ number_of why) × (number_of why ≤ 10)
+  pub refusal_numbered : {why : Refusal} {w p : List ℕ} → Searched v from to x b work path (Err why) w p → (1 ≤ refusal_number why) × (refusal_number why ≤ 10)
   refusal_numbered {why} H = go (rw H.answers (comes v from to x b (length work) (length path)))
     where
-      go : Comes (volume_of v) from to x b (length path) (Err why) → (1 ≤ number_of why) × (number_of why ≤ 10)
+      go : Comes (volume_of v) from to x b (length path) (Err why) → (1 ≤ refusal_number why) × (refusal_number why ≤ 10)
       go (ruled_so g) = (omega (arith, g.tells.0), g.tells.1)
       go (refused_so l h) = (l, omega arith)
 
   -- but 10 is never given: the question's departure and budget are 32-bit numbers
-  pub clock_never : {why : Refusal} {w p : List ℕ} → x < 2 ^ 32 → b < 2 ^ 32 → Searched v from to x b work path (Err why) w p → number_of why ≤ 9
+  pub clock_never : {why : Refusal} {w p : List ℕ} → x < 2 ^ 32 → b < 2 ^ 32 → Searched v from to x b work path (Err why) w p → refusal_number why ≤ 9
   clock_never {why} xs bs H = go (rw H.answers (comes v from to x b (length work) (length path)))
     where
-      go : Comes (volume_of v) from to x b (length path) (Err why) → number_of why ≤ 9
+      go : Comes (volume_of v) from to x b (length path) (Err why) → refusal_number why ≤ 9
       go (ruled_so g) =
           let m = answer_by_lem (volume_of v) g.sound from to g.to_in x b in
           let late = told_never_late (volume_of v) x (length path) _ (ruled (volume_of v) from to x b) m (omega arith) in
@@ -81,13 +81,13 @@ module _ {v : List ℕ} {from to x b : ℕ} {work path : List ℕ} where
   refusal_keeps_path H = H.writes
 
   -- and on one of 1 to 8 the work area too
-  pub refusal_keeps_work : {why : Refusal} {w p : List ℕ} → number_of why ≤ 8 → Searched v from to x b work path (Err why) w p → w ≡ work
+  pub refusal_keeps_work : {why : Refusal} {w p : List ℕ} → refusal_number why ≤ 8 → Searched v from to x b work path (Err why) w p → w ≡ work
   refusal_keeps_work {why} h H = H.clears ∙ sym (early_keeps why (8 * (volume_of v).junctions) work h)
 
   -- after 9 its first 8N numbers are zero
-  pub refusal_clears_work : {why : Refusal} {w p : List ℕ} → 9 ≤ number_of why → Searched v from to x b work path (Err why) w p
+  pub refusal_clears_work : {why : Refusal} {w p : List ℕ} → 9 ≤ refusal_number why → Searched v from to x b work path (Err why) w p
       → w ≡ cleared work (8 * (volume_of v).junctions)
-  refusal_clears_work {why} h H = H.clears ∙ choose_no _ _ (lt-leb (number_of why) 8 h)
+  refusal_clears_work {why} h H = H.clears ∙ choose_no _ _ (lt-leb (refusal_number why) 8 h)
 
 -- there is one for every input
 pub every_input_answered : (v : List ℕ) (from to x b : ℕ) (work path : List ℕ)

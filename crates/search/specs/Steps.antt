@@ -19,7 +19,7 @@ use Rattle.volume.specs.Open.{records_of, open_of}
 use Rattle.volume.specs.Opened.{opened}
 use Rattle.block.specs.declared.refusal.Refusal.{Refusal}
 use Rattle.block.specs.declared.refusal.Refusal.TheVariants.{Unknown, UnknownDestination, Work, Path, Arrival}
-use Rattle.block.specs.Refusal.{number_of}
+use Rattle.block.specs.Refusal.{refusal_number}
 use Rattle.records.specs.declared.tables.Counts.{Counts}
 use Rattle.travel.specs.Network.{network_of, sound_network}
 use Rattle.travel.specs.Written.{with_roads}
@@ -161,8 +161,8 @@ ran_chain {vol} {from} {to} {x} {b} {w₀} {w} {a} {n} S A R =
 -- The work area
 
 -- a refusal of 1 to 8 keeps it
-pub early_keeps : (why : Refusal) (n : ℕ) (before : List ℕ) → number_of why ≤ 8 → before ≡ work_after (Err why) n before
-early_keeps why n before h = sym (choose_yes _ _ (le-leb (number_of why) 8 h))
+pub early_keeps : (why : Refusal) (n : ℕ) (before : List ℕ) → refusal_number why ≤ 8 → before ≡ work_after (Err why) n before
+early_keeps why n before h = sym (choose_yes _ _ (le-leb (refusal_number why) 8 h))
 
 -- after the rule it is cleared
 told_clears : (vol : Volume) (x room n : ℕ) (q : Rule.Answer) (before : List ℕ) → work_after (told vol x room q) n before ≡ cleared before n
@@ -192,7 +192,7 @@ rule_clears {vol} {from} {to} {x} {b} {work} {path} A =
 -- a refusal of opening is one of 1 to 6
 abbrev pub EarlyRefusal : Result Counts Refusal → Type 0
 EarlyRefusal (Ok c) = Unit {0}
-EarlyRefusal (Err why) = (1 ≤ number_of why) × (number_of why ≤ 6)
+EarlyRefusal (Err why) = (1 ≤ refusal_number why) × (refusal_number why ≤ 6)
 
 -- what holds of both choices holds of the choice
 either : {A : Type 0} (P : A → Type 0) (t : Bool) (a b : A) → P a → P b → P (choose t a b)
@@ -216,7 +216,7 @@ opening_numbered v =
 
 module _ (v : List ℕ) (from to x b : ℕ) (work path : List ℕ) where
   -- 1 to 8: the lent lists stay
-  refused : (why : Refusal) → number_of why ≤ 8 → Err why ≡ answer_of v from to x b (length work) (length path)
+  refused : (why : Refusal) → refusal_number why ≤ 8 → Err why ≡ answer_of v from to x b (length work) (length path)
       → Searched v from to x b work path (Err why) work path
   refused why h e = record { answers = e; clears = early_keeps why (8 * (volume_of v).junctions) work h; writes = refl }
 

@@ -15,7 +15,7 @@ use Rattle.volume.specs.Opened.{OpenVolume, opened}
 use Rattle.records.specs.declared.tables.Counts.{Counts}
 use Rattle.block.specs.declared.refusal.Refusal.{Refusal}
 use Rattle.block.specs.declared.refusal.Refusal.TheVariants.{Unknown, UnknownDestination, Work, Path, Arrival}
-use Rattle.block.specs.Refusal.{number_of, place_of}
+use Rattle.block.specs.Refusal.{refusal_number, refusal_place}
 use Rattle.settle.specs.Outcome.{upper_of}
 use Rattle.search.specs.Path.{path_of}
 use Rattle.search.specs.Answer.{Reply, fits, upper_fits, upper_told, told, path_told, ruled, answer_in, after_opening, answer_of, number}
@@ -34,7 +34,7 @@ abbrev pub Tells : Volume → ℕ → ℕ → Rule.Answer → Reply → Type 0
 Tells vol x room q (Ok (Closed a n k)) = (es : List ℕ) × (q ≡ closed a n es) × (k ≡ length (path_of vol es x)) × (k ≤ room)
 Tells vol x room q (Ok (NoWay n)) = q ≡ no_way n
 Tells vol x room q (Ok (Open l h n)) = q ≡ open_from l (upper_of h) n
-Tells vol x room q (Err why) = (9 ≤ number_of why) × (number_of why ≤ 10) × (number_of why ≡ 9 → (place_of why ≡ length (path_told vol x q)) × (room < place_of why))
+Tells vol x room q (Err why) = (9 ≤ refusal_number why) × (refusal_number why ≤ 10) × (refusal_number why ≡ 9 → (refusal_place why ≡ length (path_told vol x q)) × (room < refusal_place why))
 
 -- what is told of the rule's answer tells it
 pub told_tells : (vol : Volume) (x room : ℕ) (q : Rule.Answer) → Tells vol x room q (told vol x room q)

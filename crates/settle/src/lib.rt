@@ -10,7 +10,7 @@ ghost use Rattle.settle.specs.Outcome.{Ran};
 ghost use Rattle.settle.specs.Units.{Question};
 ghost use Rattle.settle.specs.Work.{cleared};
 
-use crate::arcs::{Web, settle_state};
+use crate::arcs::{Ground, settle_state};
 use crate::labels::{STATE, offer_to};
 use crate::marks::mark;
 use crate::seen::{View, see, upper};
@@ -51,12 +51,12 @@ pub fn clear(work: &mut [u64], n: usize)
 }
 
 // The rule with the edges indexed and the junctions marked. Before each unit the tests run in the document's order.
-fn units(web: &Web<'_>, query: Query, work: &mut [u64]) -> Outcome
-    requires marked { MarksBelow (volume_of web.now.map.times.opened.records.bytes.now) query.to (volume_of web.now.map.times.opened.records.bytes.now).junctions web.now.marks.now }
-    requires question { Question (volume_of web.now.map.times.opened.records.bytes.now) query.from query.to query.departure query.budget work.old }
-    ensures { Ran (volume_of web.now.map.times.opened.records.bytes.now) query.from query.to query.departure query.budget work.old work.new result }
+fn units(ground: &Ground<'_>, query: Query, work: &mut [u64]) -> Outcome
+    requires marked { MarksBelow (volume_of ground.now.map.times.opened.records.bytes.now) query.to (volume_of ground.now.map.times.opened.records.bytes.now).junctions ground.now.marks.now }
+    requires question { Question (volume_of ground.now.map.times.opened.records.bytes.now) query.from query.to query.departure query.budget work.old }
+    ensures { Ran (volume_of ground.now.map.times.opened.records.bytes.now) query.from query.to query.departure query.budget work.old work.new result }
 {
-    let n = web.map.times.opened.records.counts.junctions;
+    let n = ground.map.times.opened.records.counts.junctions;
     let states = n + n;
     let home = n + query.to;
     clear(work, STATE * states);
@@ -72,7 +72,7 @@ fn units(web: &Web<'_>, query: Query, work: &mut [u64]) -> Outcome
                 if used == query.budget {
                     return Outcome::Open(waiting.arrival, upper(work, home), used);
                 }
-                head = settle_state(web, waiting, head, work);
+                head = settle_state(ground, waiting, head, work);
                 used += 1;
             }
         }
@@ -107,8 +107,8 @@ fn run_with<const INDEX: usize, const DIGEST: usize>(
     };
     mark(&index, query.to, &mut marks);
     let map = Roadmap::new(times, &first, &next);
-    let web = Web { map, marks: &marks };
-    units(&web, query, work)
+    let ground = Ground { map, marks: &marks };
+    units(&ground, query, work)
 }
 
 // Runs the rule on a question: what it ends with, and the labels in the first 8 N work numbers, whatever they held before. Few

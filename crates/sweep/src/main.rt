@@ -10,7 +10,7 @@ use std::io;
 use telling::line::{heading, told};
 use telling::networks::{FERRY, HILL, RING, SAMPLE};
 use telling::page::lay;
-use telling::say::{Found, Said};
+use telling::say::{Checked, Said};
 
 mod bare;
 
@@ -116,7 +116,7 @@ fn compare_all(v: &[u8]) -> Tally {
 
 // The lines of a volume: is it full, and how did the questions come out?
 fn swept(rt: &impl Print, label: &str, v: &[u8]) -> io::Result<()> {
-    told(rt, label, Said(check(v).map(Found)), "full")?;
+    told(rt, label, Said(check(v).map(Checked)), "full")?;
     told(rt, label, compare_all(v), "0 differ")
 }
 

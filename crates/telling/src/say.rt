@@ -22,9 +22,9 @@ impl<T: Display> Display for Said<T> {
 
 // What the full check finds: the first fault, or none.
 #[derive(Clone, Copy)]
-pub struct Found(pub Option<Fault>);
+pub struct Checked(pub Option<Fault>);
 
-impl Display for Found {
+impl Display for Checked {
     fn fmt<W: fmt::Write>(&self, f: &mut fmt::Formatter<W>) -> fmt::Result {
         match self.0 {
             Some(fault) => write!(f, "{fault}"),

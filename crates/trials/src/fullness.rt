@@ -4,11 +4,11 @@ use std::io;
 use telling::line::{heading, told};
 use telling::networks::SAMPLE;
 use telling::page::{lay, one_block};
-use telling::say::{Found, Said};
+use telling::say::{Checked, Said};
 
 // The line of the full check of v.
 fn checked(rt: &impl Print, label: &str, v: &[u8], line: &str) -> io::Result<()> {
-    told(rt, label, Said(check(v).map(Found)), line)
+    told(rt, label, Said(check(v).map(Checked)), line)
 }
 
 // The sample with other pieces of edge 2, and with no edge 2.

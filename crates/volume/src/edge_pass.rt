@@ -9,7 +9,7 @@ use block::refusal::Refusal;
 use records::index::{Index, index_edges};
 use records::readers::Records;
 use rules::edges::edge_fits;
-use rules::kept::{Passed, keep};
+use rules::kept::{Earlier, keep};
 
 // The pass over all edges, of which `repeat` is the first whose ends an earlier one has: refuses the first edge at fault, or E where
 // pieces are left over. It keeps what later pairs ask of an edge.
@@ -21,7 +21,7 @@ fn pass_keeping(r: &Records<'_>, repeat: usize, kept: &mut [u16]) -> Result<(), 
 {
     let mut begin: usize = 0;
     for e in 0..repeat {
-        let passed = Passed {
+        let passed = Earlier {
             records: *r,
             edge: e,
             kept,

@@ -29,8 +29,8 @@ mark-requires g c =
 pub units-requires-clause-question : goal.units-requires-clause-question
 units-requires-clause-question g c = rw c.new-map.ensures.times.0 c.requires.question
 
-pub invariant_of-web : goal.invariant_of-web
-invariant_of-web g c =
+pub invariant_of-ground : goal.invariant_of-ground
+invariant_of-ground g c =
     let zeros = length-replicate {A = Bool} 1024 false in
     record { room = omega (arith, c.mark.ensures.size, c.new-map.result.times.opened.sound.junctions_few, c.new-map.result.times.opened.records.counted.junctions) }
 

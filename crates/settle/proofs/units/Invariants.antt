@@ -6,7 +6,7 @@ use Rattle.settle.proofs.units.Given as goal
 
 abbrev pub invariant-loop-arrival : goal.invariant-loop-arrival
 invariant-loop-arrival l = record {
-  onward : Onward (volume_of l.web.map.times.opened.records.bytes.now) l.query.from l.query.to l.query.departure l.query.budget l.fn.work l.used l.work;
+  onward : Onward (volume_of l.ground.map.times.opened.records.bytes.now) l.query.from l.query.to l.query.departure l.query.budget l.fn.work l.used l.work;
   chained : Chained (l.n + l.n) l.work l.head;
 }
 

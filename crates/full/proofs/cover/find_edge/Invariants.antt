@@ -1,14 +1,14 @@
 use Rattle.std.proofs.Common.{◌-◌}
 use Rattle.records.specs.Format.{volume_of}
-use Rattle.records.specs.Index.{NoneBefore, Within, place_of}
+use Rattle.records.specs.Index.{NoneBefore, Within, walk_at}
 use Rattle.full.proofs.cover.find_edge.Given as goal
 
 abbrev pub invariant-loop-at : goal.invariant-loop-at
 invariant-loop-at l =
     let vol = volume_of l.map.times.opened.records.bytes.now in
-    Within l.at vol.edges × NoneBefore vol l.u l.w (place_of l.at vol.edges)
+    Within l.at vol.edges × NoneBefore vol l.u l.w (walk_at l.at vol.edges)
 
 abbrev pub decreases-loop-at : goal.decreases-loop-at
 decreases-loop-at l =
     let edges = (volume_of l.map.times.opened.records.bytes.now).edges in
-    edges - place_of l.at edges
+    edges - walk_at l.at edges

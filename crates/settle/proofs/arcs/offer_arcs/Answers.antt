@@ -10,15 +10,15 @@ use Rattle.settle.proofs.arcs.offer_arcs.Goals as goal
 
 pub first-at-requires : goal.first-at-requires
 first-at-requires c =
-    let R = c.args.web.now.map.times.opened.records in
+    let R = c.args.ground.now.map.times.opened.records in
     let below = place_below R.counts.junctions c.args.s c.requires.s_bound in
     omega (arith, c.place-u.ensures, R.counted.junctions)
 
 pub loop-at-init : goal.loop-at-init
 loop-at-init c =
     let p = c.place-u in
-    let vol = volume_of c.args.web.now.map.times.opened.records.bytes.now in
-    let R = c.args.web.now.map.times.opened.records in
+    let vol = volume_of c.args.ground.now.map.times.opened.records.bytes.now in
+    let R = c.args.ground.now.map.times.opened.records in
     let u = p.result in
     let found = c.first-at.ensures in
     let is = found_place _ _ _ found in (
@@ -31,16 +31,16 @@ loop-at-init c =
 
 pub loop-at-smaller : goal.loop-at-smaller
 loop-at-smaller c =
-    let vol = volume_of c.args.web.now.map.times.opened.records.bytes.now in
+    let vol = volume_of c.args.ground.now.map.times.opened.records.bytes.now in
     let at = rw c.in-Some.is at c.loop-at.invariant in
     let on = walk_on vol c.place-u.result c.in-Some.e _ at.0 (at.1.begins at.0) c.next-at.ensures in
     rw c.in-Some.is on.nearer
 
 pub loop-at-preserved : goal.loop-at-preserved
 loop-at-preserved c =
-    let vol = volume_of c.args.web.now.map.times.opened.records.bytes.now in
+    let vol = volume_of c.args.ground.now.map.times.opened.records.bytes.now in
     let p = c.place-u in
-    let R = c.args.web.now.map.times.opened.records in
+    let R = c.args.ground.now.map.times.opened.records in
     let e = c.in-Some.e in
     let at = rw c.in-Some.is at c.loop-at.invariant in
     let on = walk_on vol p.result e _ at.0 (at.1.begins at.0) c.next-at.ensures in
@@ -54,10 +54,10 @@ loop-at-preserved c =
 
 pub returns-clause-does : goal.returns-clause-does
 returns-clause-does c =
-    let vol = volume_of c.args.web.now.map.times.opened.records.bytes.now in
-    let R = c.args.web.now.map.times.opened.records in
+    let vol = volume_of c.args.ground.now.map.times.opened.records.bytes.now in
+    let R = c.args.ground.now.map.times.opened.records in
     let t = c.offer_turn-front in
     let at = rw c.in_default.is at c.loop-at.invariant in
     λ d m. walk_ends vol d c.args.s c.args.arrival vol.edges c.args.work.now _ _ refl
-    (turn_offered vol d c.args.s c.args.arrival R.counts.junctions c.args.head c.args.web.now.marks.now c.args.work.now _ R.counted.junctions c.requires.arrival_bound.1 m t.ensures.work_after)
+    (turn_offered vol d c.args.s c.args.arrival R.counts.junctions c.args.head c.args.ground.now.marks.now c.args.work.now _ R.counted.junctions c.requires.arrival_bound.1 m t.ensures.work_after)
     (at.3 d m)

@@ -1,7 +1,7 @@
 use mathlib.Core.Path.{◌∙◌}
 use native.Mathlib.Omega.{arith}
 use Rattle.rules.specs.Kept.{part}
-use Rattle.rules.proofs.kept.Passed.ends.Goals as goal
+use Rattle.rules.proofs.kept.Earlier.ends.Goals as goal
 
 pub returns-clause-from_value : goal.returns-clause-from_value
 unfolding part

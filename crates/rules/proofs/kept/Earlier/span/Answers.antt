@@ -1,7 +1,7 @@
 use mathlib.Core.Path.{◌∙◌}
 use native.Mathlib.Omega.{arith}
 use Rattle.rules.specs.Kept.{part}
-use Rattle.rules.proofs.kept.Passed.span.Goals as goal
+use Rattle.rules.proofs.kept.Earlier.span.Goals as goal
 
 pub returns : goal.returns
 unfolding part
