@@ -1,17 +1,15 @@
 // The records of a volume, read: a road, a point, an edge and a piece, whole. Whoever holds `Records` knows that all of them lie in the
-// bytes, so no reader tests anything. What is not used of a record is not read: the compiler leaves it out.
-ghost use Rattle.std.specs.Prelude.{◌≡◌, ◌+◌, ◌*◌, ◌^◌, ◌<◌};
-ghost use Rattle.records.specs.Format.{volume_of, Counted, Laid, IsRoad, IsPoint, IsEdge, IsPiece, IsWay};
+// bytes, so no reader tests anything. What is not used of a record is not read: the compiler leaves it out. The functions that its
+// methods are made of stand beside them, since they ask less: where the tables begin, and nothing of what the head counts.
+ghost use Rattle.std.specs.Prelude.{◌≡◌, ◌+◌, ◌*◌, ◌^◌, ◌≤◌, ◌<◌, length};
+ghost use Rattle.records.specs.Format.{volume_of, counts_of, Counted, Laid, IsRoad, IsPoint, IsEdge, IsPiece, IsWay};
 ghost use Rattle.block.specs.Word.{content_at, Holds};
 
 use crate::tables::{
-    Counts, EDGE_WORDS, Edge, HEAD_WORDS, PIECE_WORDS, POINT_WORDS, Piece, Point, ROAD_WORDS, Road,
-    Tables, Way,
+    Counts, EDGE_WORDS, EMPTY, Edge, HEAD_WORDS, LEFT, PIECE_WORDS, POINT_WORDS, Piece, Point,
+    RIGHT, ROAD_WORDS, Road, Tables, Way,
 };
 use block::{content, content_pair};
-
-// The right of a piece with an empty middle: its left is a road. It is document 01's number, and is tested in `way_at` alone.
-const EMPTY: usize = 4294967295;
 
 // A volume's bytes, what its head counts, and the content words at which its tables begin.
 #[derive(Clone, Copy)]
@@ -32,13 +30,25 @@ fn record_at(base: usize, words: usize, i: usize) -> usize
     (base + words * i) as u32 as usize
 }
 
-// How the piece at content word w goes: by a road, where its right is empty, or by two edges in turn.
-pub fn way_at(v: &[u8], w: usize) -> Way
-    requires { Holds v.now (w + 2) }
-    ensures { IsWay (content_at v.now (w + 1)) (content_at v.now (w + 2)) result }
+// N, R, P, E and Q as the head says.
+pub fn head(v: &[u8]) -> Counts
+    requires { 512 ≤ length v.now }
+    ensures { result ≡ counts_of (volume_of v.now) }
 {
-    let left = content(v, w + 1) as usize;
-    let right = content(v, w + 2) as usize;
+    Counts {
+        junctions: content(v, 1) as usize,
+        roads: content(v, 2) as usize,
+        points: content(v, 3) as usize,
+        edges: content(v, 4) as usize,
+        pieces: content(v, 5) as usize,
+    }
+}
+
+// How a piece with that left and right goes: by a road, where its right is empty, or by two edges in turn.
+fn way(left: usize, right: usize) -> Way
+    requires { (left < 2 ^ 32) × (right < 2 ^ 32) }
+    ensures { IsWay left right result }
+{
     if right == EMPTY {
         Way::Road(left)
     } else {
@@ -46,8 +56,18 @@ pub fn way_at(v: &[u8], w: usize) -> Way
     }
 }
 
-// Road k. Its first word stands at an even place, so its four words are two pairs. It and `point_at` stand beside the methods of
-// `Records`, since they ask less.
+// How the piece at content word w goes.
+pub fn way_at(v: &[u8], w: usize) -> Way
+    requires { Holds v.now (w + 2) }
+    ensures { IsWay (content_at v.now (w + 1)) (content_at v.now (w + 2)) result }
+{
+    way(
+        content(v, w + LEFT) as usize,
+        content(v, w + RIGHT) as usize,
+    )
+}
+
+// Road k. Its first word stands at an even place, so its four words are two pairs.
 pub fn road_at(v: &[u8], t: Tables, k: usize) -> Road
     requires laid { Laid v.now t }
     requires k_bound { k < (volume_of v.now).roads }
@@ -77,6 +97,92 @@ pub fn point_at(v: &[u8], t: Tables, i: usize) -> Point
     }
 }
 
+// The junction where edge e begins.
+pub fn edge_from(v: &[u8], t: Tables, e: usize) -> usize
+    requires laid { Laid v.now t }
+    requires e_bound { e < (volume_of v.now).edges }
+    ensures { (result ≡ (volume_of v.now).edge_from e) × (result < 2 ^ 32) }
+{
+    content(v, record_at(t.edges, EDGE_WORDS, e)) as usize
+}
+
+// The junction where edge e ends.
+pub fn edge_to(v: &[u8], t: Tables, e: usize) -> usize
+    requires laid { Laid v.now t }
+    requires e_bound { e < (volume_of v.now).edges }
+    ensures { (result ≡ (volume_of v.now).edge_to e) × (result < 2 ^ 32) }
+{
+    content(v, record_at(t.edges, EDGE_WORDS, e) + 1) as usize
+}
+
+// The first piece of edge e.
+pub fn edge_first(v: &[u8], t: Tables, e: usize) -> usize
+    requires laid { Laid v.now t }
+    requires e_bound { e < (volume_of v.now).edges }
+    ensures { (result ≡ (volume_of v.now).edge_first e) × (result < 2 ^ 32) }
+{
+    content(v, record_at(t.edges, EDGE_WORDS, e) + 2) as usize
+}
+
+// How many pieces edge e has.
+pub fn edge_pieces(v: &[u8], t: Tables, e: usize) -> usize
+    requires laid { Laid v.now t }
+    requires e_bound { e < (volume_of v.now).edges }
+    ensures { (result ≡ (volume_of v.now).edge_pieces e) × (result < 2 ^ 32) }
+{
+    content(v, record_at(t.edges, EDGE_WORDS, e) + 3) as usize
+}
+
+// The span of edge e.
+pub fn edge_span(v: &[u8], t: Tables, e: usize) -> usize
+    requires laid { Laid v.now t }
+    requires e_bound { e < (volume_of v.now).edges }
+    ensures { (result ≡ (volume_of v.now).edge_span e) × (result < 2 ^ 32) }
+{
+    content(v, record_at(t.edges, EDGE_WORDS, e) + 4) as usize
+}
+
+// The second at which piece p starts.
+pub fn piece_start(v: &[u8], t: Tables, p: usize) -> u64
+    requires laid { Laid v.now t }
+    requires p_bound { p < (volume_of v.now).pieces }
+    ensures { (result ≡ (volume_of v.now).piece_start p) × (result < 2 ^ 32) }
+{
+    content(v, record_at(t.pieces, PIECE_WORDS, p)) as u64
+}
+
+// The left of piece p: an edge, or a road where the middle is empty.
+pub fn piece_left(v: &[u8], t: Tables, p: usize) -> usize
+    requires laid { Laid v.now t }
+    requires p_bound { p < (volume_of v.now).pieces }
+    ensures { (result ≡ (volume_of v.now).piece_left p) × (result < 2 ^ 32) }
+{
+    content(v, record_at(t.pieces, PIECE_WORDS, p) + LEFT) as usize
+}
+
+// The right of piece p: an edge, or EMPTY.
+pub fn piece_right(v: &[u8], t: Tables, p: usize) -> usize
+    requires laid { Laid v.now t }
+    requires p_bound { p < (volume_of v.now).pieces }
+    ensures { (result ≡ (volume_of v.now).piece_right p) × (result < 2 ^ 32) }
+{
+    content(v, record_at(t.pieces, PIECE_WORDS, p) + RIGHT) as usize
+}
+
+impl<'a> Records<'a> {
+    // The records of bytes in which someone knows the tables; what the head counts is read there.
+    pub fn new(bytes: &'a [u8], tables: Tables) -> Self
+        requires { Laid bytes.now tables }
+        ensures { (result.bytes.now ≡ bytes.now) × (result.counts ≡ counts_of (volume_of bytes.now)) × (result.tables ≡ tables) }
+    {
+        Records {
+            bytes,
+            counts: head(bytes),
+            tables,
+        }
+    }
+}
+
 impl Records<'_> {
     // Road k.
     pub fn road(&self, k: usize) -> Road
@@ -99,13 +205,13 @@ impl Records<'_> {
         requires { e < (volume_of self.now.bytes.now).edges }
         ensures { IsEdge (volume_of self.now.bytes.now) e result }
     {
-        let w = record_at(self.tables.edges, EDGE_WORDS, e);
+        let (v, t) = (self.bytes, self.tables);
         Edge {
-            from: content(self.bytes, w) as usize,
-            to: content(self.bytes, w + 1) as usize,
-            first: content(self.bytes, w + 2) as usize,
-            pieces: content(self.bytes, w + 3) as usize,
-            span: content(self.bytes, w + 4) as usize,
+            from: edge_from(v, t, e),
+            to: edge_to(v, t, e),
+            first: edge_first(v, t, e),
+            pieces: edge_pieces(v, t, e),
+            span: edge_span(v, t, e),
         }
     }
 
@@ -114,10 +220,10 @@ impl Records<'_> {
         requires { p < (volume_of self.now.bytes.now).pieces }
         ensures { IsPiece (volume_of self.now.bytes.now) p result }
     {
-        let w = record_at(self.tables.pieces, PIECE_WORDS, p);
+        let (v, t) = (self.bytes, self.tables);
         Piece {
-            start: content(self.bytes, w) as u64,
-            way: way_at(self.bytes, w),
+            start: piece_start(v, t, p),
+            way: way(piece_left(v, t, p), piece_right(v, t, p)),
         }
     }
 }

@@ -2,6 +2,10 @@
 ghost use Rattle.std.specs.Prelude.{◌≡◌, ◌+◌, ◌*◌, ◌^◌, ◌<◌};
 ghost use Rattle.records.specs.Format.{Few, tables_of, words_in};
 
+pub use crate::readers::{
+    edge_first, edge_from, edge_pieces, edge_span, edge_to, piece_left, piece_right, piece_start,
+    point_at, road_at,
+};
 use std::fmt;
 
 // How many content words the head, a road, a point, an edge and a piece have: said here and in specs/Format.antt, and nowhere else.
@@ -14,6 +18,14 @@ pub const POINT_WORDS: usize = 2;
 pub(crate) const EDGE_WORDS: usize = 5;
 
 pub const PIECE_WORDS: usize = 3;
+
+// Where a piece's left and right stand among its words.
+pub const LEFT: usize = 1;
+
+pub const RIGHT: usize = 2;
+
+// The right of a piece with an empty middle: its left is a road. It is document 01's number, and is tested in `readers::way` alone.
+pub const EMPTY: usize = 4294967295;
 
 // After how many seconds a volume repeats.
 pub const PERIOD: u64 = 86400;

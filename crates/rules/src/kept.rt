@@ -8,11 +8,11 @@ ghost use Rattle.rules.specs.Kept.{keeping, Kept, Short};
 use records::readers::Records;
 
 // The numbers kept of an edge, and how many there are.
-const START: usize = 0;
+pub const START: usize = 0;
 
-const END: usize = 1;
+pub const END: usize = 1;
 
-const SPAN: usize = 2;
+pub const SPAN: usize = 2;
 
 const PARTS: usize = 3;
 

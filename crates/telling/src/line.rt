@@ -4,14 +4,17 @@ ghost use Rattle.telling.specs.Room.{RoadsFit};
 use crate::say;
 use block::refusal::Refusal;
 use search::Answer;
+use std::convert::AsSlice;
 use std::fmt::{self, Display};
-use std::io;
+use std::io::{self, Write};
 
-// A heading, after an empty line.
-pub fn heading(rt: &impl Print, t: &str) -> io::Result<()>
+// A heading, after an empty line: a text, or bytes of one, which are written as they are.
+pub fn heading<T: AsSlice<u8> + Drop>(rt: &impl Print, t: T) -> io::Result<()>
     ensures { Unit {0} }
 {
-    println!(rt; "\n{t}")
+    println!(rt)?;
+    io::writer(rt).write_all(t.as_slice())?;
+    println!(rt)
 }
 
 // What an answer is the answer to, the answer, and what it should say.
@@ -47,18 +50,20 @@ impl Display for Question {
     }
 }
 
-// The line of a question, with the roads that stand in the path list.
-pub fn asked(
+// The line of a question, with the roads that stand in the path list. What it should say may be bytes, as a heading may.
+pub fn asked<T: AsSlice<u8> + Drop>(
     rt: &impl Print,
     question: Question,
     reply: Result<Answer, Refusal>,
     path: &[u32],
-    line: &str,
+    line: T,
 ) -> io::Result<()>
     requires { RoadsFit reply path.now }
     ensures { Unit {0} }
 {
     print!(rt; "{question}: ")?;
     say::reply(rt, reply, path)?;
-    println!(rt; "; should be {line}")
+    print!(rt; "; should be ")?;
+    io::writer(rt).write_all(line.as_slice())?;
+    println!(rt)
 }

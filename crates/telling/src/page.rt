@@ -4,13 +4,23 @@ ghost use Rattle.block.specs.Seal.{sealed};
 ghost use Rattle.telling.specs.Page.{put_content, put_row};
 
 use block::{put_word, seal};
+use std::convert::AsSlice;
+use std::str;
 
 // The word of an empty middle: document 01's number.
 pub const EMPTY: u32 = u32::MAX;
 
-// Is a character part of a number, or does it stand between two?
-fn in_number(c: char) -> bool {
-    c == '-' || c.is_ascii_digit()
+// Is a byte of a text part of a number, or does it stand between two?
+fn in_number(b: u8) -> bool {
+    b == b'-' || b.is_ascii_digit()
+}
+
+// The number of some bytes of a text. What does not parse is `-`.
+fn number_of(bytes: &[u8]) -> u32 {
+    let Ok(number) = str::from_utf8(bytes) else {
+        return EMPTY;
+    };
+    number.parse().unwrap_or(EMPTY)
 }
 
 // Writes x as content word w, of the first million; past the end nothing.
@@ -34,18 +44,24 @@ pub fn put_row(v: &mut [u8], w: usize, row: &[u32])
     }
 }
 
-// Writes the numbers of a text as content words from word 0 on and seals the volume.
-pub fn lay(v: &mut [u8], text: &str)
+// Writes the numbers of some bytes of text as content words from word 0 on and seals the volume.
+fn lay_bytes(v: &mut [u8], text: &[u8])
     ensures { sealed v.new ≡ v.new }
 {
     let numbers = text
-        .split(|c: char| !in_number(c))
-        .filter(|number| !number.is_empty());
-    for (w, number) in numbers.enumerate() {
-        // what does not parse is `-`
-        put(v, w, number.parse().unwrap_or(EMPTY));
+        .split(|b: &u8| !in_number(*b))
+        .filter(|bytes| !bytes.is_empty());
+    for (w, bytes) in numbers.enumerate() {
+        put(v, w, number_of(bytes));
     }
     let _ = seal(v);
+}
+
+// The same of a text, or of bytes in which anything may stand between two numbers.
+pub fn lay<T: AsSlice<u8> + Drop>(v: &mut [u8], text: T)
+    ensures { sealed v.new ≡ v.new }
+{
+    lay_bytes(v, text.as_slice());
 }
 
 // A volume of one block with the numbers of a text.

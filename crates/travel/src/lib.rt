@@ -50,7 +50,8 @@ fn edge_digested<const N: usize>(opened: &Opened<'_>, e: usize, x: u64) -> u64
 
 // The same for any edge. A short one is unfolded where its pieces stand, since a digest of all roads and edges would take longer than
 // the walk itself: making a short list takes what a digest saves for 16 roads, and 16 edges are listed in what it saves for one more. Few
-// roads and edges get a short list.
+// roads and edges get a short list. It is not drawn into its callers: the lists would then lie in their frames while the volume is opened.
+#[inline(never)]
 fn edge_lasts(opened: &Opened<'_>, e: usize, x: u64) -> u64
     requires { Enters (volume_of opened.now.records.bytes.now) e x }
     ensures { x + result ≡ arrival (volume_of opened.now.records.bytes.now) e x }

@@ -14,27 +14,13 @@ use crate::road_pass::roads_pass;
 use crate::sound::Opened;
 use block::refusal::Refusal;
 use block::{content, first_bad, is_whole};
-use records::readers::Records;
+use records::readers::{Records, head};
 use records::tables::{Counts, tables_of, words_of};
 
 pub mod edge_pass;
 pub mod repeats;
 pub mod road_pass;
 pub mod sound;
-
-// N, R, P, E and Q as the head says.
-fn head(v: &[u8]) -> Counts
-    requires { 512 ≤ length v.now }
-    ensures { result ≡ counts_of (volume_of v.now) }
-{
-    Counts {
-        junctions: content(v, 1) as usize,
-        roads: content(v, 2) as usize,
-        points: content(v, 3) as usize,
-        edges: content(v, 4) as usize,
-        pieces: content(v, 5) as usize,
-    }
-}
 
 // Are the counts within the limits?
 fn head_fits(c: Counts) -> bool
@@ -118,10 +104,6 @@ pub fn read(v: &[u8]) -> Result<Opened<'_>, Refusal>
     ensures err { IfErr result (λ why. open_of v.now ≡ Err why) }
 {
     let counts = open(v)?;
-    let records = Records {
-        bytes: v,
-        counts,
-        tables: tables_of(counts),
-    };
+    let records = Records::new(v, tables_of(counts));
     Ok(Opened { records })
 }

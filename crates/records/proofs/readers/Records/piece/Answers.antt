@@ -5,5 +5,8 @@ use Rattle.records.proofs.readers.Records.piece.Goals as goal
 pub returns : goal.returns
 unfolding volume_of
 returns c =
-    let L = c.args.self.now.laid.pieces in
-    record { start = (cc); start_fits = search rules; way = rw (c.record_at-w.ensures, L) at c.way_at.ensures }
+    record {
+      start = (cc);
+      start_fits = search rules;
+      way = rw (c.piece_left.ensures.0, c.piece_right.ensures.0) at c.way.ensures;
+    }

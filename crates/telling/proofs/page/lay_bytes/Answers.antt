@@ -1,7 +1,7 @@
 use mathlib.Core.Path.{ap, sym, ◌∙◌}
 use Rattle.block.specs.Seal.{sealed}
 use Rattle.block.specs.Promises.{sealed_twice}
-use Rattle.telling.proofs.page.lay.Goals as goal
+use Rattle.telling.proofs.page.lay_bytes.Goals as goal
 
 pub returns : goal.returns
 returns c =

@@ -1,5 +1,5 @@
 use Rattle.records.specs.Format.{volume_of}
-use Rattle.volume.proofs.head.Goals as goal
+use Rattle.records.proofs.readers.head.Goals as goal
 
 pub returns : goal.returns
 unfolding volume_of
