@@ -17,16 +17,26 @@ pub fn heading<T: AsSlice<u8> + Drop>(rt: &impl Print, t: T) -> io::Result<()>
     println!(rt)
 }
 
+// Ends a line with what it should say: a text, or bytes of one, as a heading.
+pub fn should(rt: &impl Print, line: &[u8]) -> io::Result<()>
+    ensures { Unit {0} }
+{
+    print!(rt; "; should be ")?;
+    io::writer(rt).write_all(line)?;
+    println!(rt)
+}
+
 // What an answer is the answer to, the answer, and what it should say.
-pub fn told<L: Display + Drop, T: Display + Drop>(
+pub fn told<L: Display + Drop, T: Display + Drop, S: AsSlice<u8> + Drop>(
     rt: &impl Print,
     label: L,
     answer: T,
-    line: &str,
+    line: S,
 ) -> io::Result<()>
     ensures { Unit {0} }
 {
-    println!(rt; "{label}: {answer}; should be {line}")
+    print!(rt; "{label}: {answer}")?;
+    should(rt, line.as_slice())
 }
 
 // A question to the search.
@@ -50,7 +60,7 @@ impl Display for Question {
     }
 }
 
-// The line of a question, with the roads that stand in the path list. What it should say may be bytes, as a heading may.
+// The line of a question, with the roads that stand in the path list.
 pub fn asked<T: AsSlice<u8> + Drop>(
     rt: &impl Print,
     question: Question,
@@ -63,7 +73,5 @@ pub fn asked<T: AsSlice<u8> + Drop>(
 {
     print!(rt; "{question}: ")?;
     say::reply(rt, reply, path)?;
-    print!(rt; "; should be ")?;
-    io::writer(rt).write_all(line.as_slice())?;
-    println!(rt)
+    should(rt, line.as_slice())
 }

@@ -15,7 +15,7 @@ fn in_number(b: u8) -> bool {
     b == b'-' || b.is_ascii_digit()
 }
 
-// The number of some bytes of a text. What does not parse is `-`.
+// The number of some bytes of a text, which are digits and `-`, and so a text too. What does not parse is `-`.
 fn number_of(bytes: &[u8]) -> u32 {
     let Ok(number) = str::from_utf8(bytes) else {
         return EMPTY;
